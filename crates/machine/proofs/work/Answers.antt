@@ -1,0 +1,50 @@
+use mathlib.Core.Bool.{Bool}
+use mathlib.Core.Path.{ap, _∙_}
+use native.Mathlib.Omega.{arith}
+use Rattle.port.specs.Kinds.{seen}
+use Rattle.cpu.specs.States.{State, state}
+use Rattle.cpu.proofs.Turns.{costs-one}
+use Rattle.machine.specs.Runs.{at-end}
+use Rattle.machine.proofs.Going.{again, stopped, done}
+use Rattle.machine.proofs.work.Needs as need
+
+pub add-cycles : need.add-cycles
+add-cycles g c =
+    let s = state (c .loop-cycles .cpu) (c .loop-cycles .memory) (seen (g .P·Port) (c .loop-cycles .port)) in
+    omega (arith, costs-one s _ (c .in-Ok .ensures tt .answer))
+
+pub loop-cycles-less : need.loop-cycles-less
+loop-cycles-less g c =
+    let s = state (c .loop-cycles .cpu) (c .loop-cycles .memory) (seen (g .P·Port) (c .loop-cycles .port)) in
+    omega (arith, costs-one s _ (c .in-Ok .ensures tt .answer))
+
+pub loop-cycles-again : need.loop-cycles-again
+loop-cycles-again g c =
+    let s = state (c .loop-cycles .cpu) (c .loop-cycles .memory) (seen (g .P·Port) (c .loop-cycles .port)) in (
+      omega (arith, costs-one s _ (c .in-Ok .ensures tt .answer)),
+      again (c .args .budget) (c .loop-cycles .cycles) s _ _ (c .loop-cycles .inv .1) (c .loop-cycles-test .taken) (c .step .ensures .after) _ (c .in-Ok .ensures tt .answer),
+    )
+
+pub returns-in-Err : need.returns-in-Err
+returns-in-Err g c =
+    let s = state (c .loop-cycles .cpu) (c .loop-cycles .memory) (seen (g .P·Port) (c .loop-cycles .port)) in
+    record {
+      answer = stopped (c .args .budget) (c .loop-cycles .cycles) s _ _ (c .loop-cycles .inv .1) (c .loop-cycles-test .taken) (c .step .ensures .after) _ (c .in-Err .ensures tt .answer);
+      bound = c .loop-cycles .inv .0;
+    }
+
+pub returns-then-halted : need.returns-then-halted
+returns-then-halted g c =
+    let s = state (c .loop-cycles .cpu) (c .loop-cycles .memory) (seen (g .P·Port) (c .loop-cycles .port)) in
+    record {
+      answer = ap (λ (b : Bool). record { stop = at-end b; cycles = c .loop-cycles .cycles; after = s }) (c .if-halted .ensures tt) ∙ done (c .args .budget) _ s _ (c .loop-cycles .inv .1) (c .loop-cycles-test .left);
+      bound = c .loop-cycles .inv .0;
+    }
+
+pub returns-else-halted : need.returns-else-halted
+returns-else-halted g c =
+    let s = state (c .loop-cycles .cpu) (c .loop-cycles .memory) (seen (g .P·Port) (c .loop-cycles .port)) in
+    record {
+      answer = ap (λ (b : Bool). record { stop = at-end b; cycles = c .loop-cycles .cycles; after = s }) (c .if-halted .ensures tt) ∙ done (c .args .budget) _ s _ (c .loop-cycles .inv .1) (c .loop-cycles-test .left);
+      bound = c .loop-cycles .inv .0;
+    }

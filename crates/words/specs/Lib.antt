@@ -1,0 +1,5 @@
+pub mod Registers
+pub mod Immediates
+pub mod Values
+pub mod Coding
+pub mod Acts

@@ -1,2 +1,5 @@
-pub mod Meaning
 pub mod Kinds
+pub mod Laws
+pub mod Meaning
+pub mod Polarity
+pub mod Tape

@@ -5,6 +5,15 @@ ghost use Prim.Native.Nat.{ℕ};
 ghost use lib.ListN.{length};
 ghost use Rattle.port.specs.Meaning.{meaning, taking, sending};
 
+mod polarities;
+mod tapes;
+
+pub use polarities::Polarity;
+pub use polarities::PolarityPort;
+pub use polarities::polarity_laws;
+pub use tapes::Tape;
+pub use tapes::TapePort;
+
 /// No word waits.
 #[derive(Clone, Copy, PartialEq, Eq, Debug)]
 pub struct Dry;

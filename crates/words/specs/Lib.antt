@@ -3,3 +3,4 @@ pub mod Immediates
 pub mod Values
 pub mod Coding
 pub mod Acts
+pub mod Unused

@@ -1,8 +1,10 @@
 // The instructions, the word of each, and the instruction that a word stands for.
 ghost use mathlib.Core.Path.{_≡_};
-ghost use Prim.Native.Nat.{ℕ, _<_};
+ghost use Prim.Native.Nat.{ℕ, _+_, _<_};
+ghost use Rattle.std.specs.declared.option.Option.the-variants.{Some};
 ghost use Rattle.words.specs.Values.{computed, passes, shifted};
-ghost use Rattle.words.specs.Coding.{encoded, decoded, cost-of, function-code, test-code};
+ghost use Rattle.words.specs.Coding.{encoded, decoded, cost-of, function-code, test-code, of-registers, of-imm6, of-imm8, three-of, two-of, with-imm6, with-imm8};
+ghost use Rattle.words.specs.Unused.{unused, Word-of};
 use super::immediates::Imm6;
 use super::immediates::Imm8;
 use super::registers::Register;
@@ -142,7 +144,7 @@ pub fn shift(word: u16, by: Imm6) -> u16
 }
 
 fn three_of(word: u16) -> ThreeRegisters
-    ensures { λ r. ⌜ r ≡ Rattle.words.specs.Coding.three-of word ⌝ }
+    ensures { λ r. ⌜ r ≡ three-of word ⌝ }
 {
     ThreeRegisters {
         rd: Register::from_bits(word / 512),
@@ -152,7 +154,7 @@ fn three_of(word: u16) -> ThreeRegisters
 }
 
 fn two_of(word: u16) -> TwoRegisters
-    ensures { λ r. ⌜ r ≡ Rattle.words.specs.Coding.two-of word ⌝ }
+    ensures { λ r. ⌜ r ≡ two-of word ⌝ }
 {
     TwoRegisters {
         rd: Register::from_bits(word / 512),
@@ -161,7 +163,7 @@ fn two_of(word: u16) -> TwoRegisters
 }
 
 fn with_imm6(word: u16) -> RegistersImm6
-    ensures { λ r. ⌜ r ≡ Rattle.words.specs.Coding.with-imm6 word ⌝ }
+    ensures { λ r. ⌜ r ≡ with-imm6 word ⌝ }
 {
     RegistersImm6 {
         rd: Register::from_bits(word / 512),
@@ -171,7 +173,7 @@ fn with_imm6(word: u16) -> RegistersImm6
 }
 
 fn with_imm8(word: u16) -> RegisterImm8
-    ensures { λ r. ⌜ r ≡ Rattle.words.specs.Coding.with-imm8 word ⌝ }
+    ensures { λ r. ⌜ r ≡ with-imm8 word ⌝ }
 {
     RegisterImm8 {
         rd: Register::from_bits(word / 512),
@@ -179,62 +181,98 @@ fn with_imm8(word: u16) -> RegisterImm8
     }
 }
 
+fn read(word: u16) -> Option<Instruction>
+    ensures { λ r. ⌜ r ≡ decoded word ⌝ }
+{
+    match word / 4096 {
+        0 => match word % 8 {
+            0 => Some(Instruction::Compute(Function::Add, three_of(word))),
+            1 => Some(Instruction::Compute(Function::Sub, three_of(word))),
+            2 => Some(Instruction::Compute(Function::And, three_of(word))),
+            3 => Some(Instruction::Compute(Function::Or, three_of(word))),
+            4 => Some(Instruction::Not(two_of(word))),
+            _ => None,
+        },
+        1 => Some(Instruction::Jalr(two_of(word))),
+        2 => Some(Instruction::In(Register::from_bits(word / 512))),
+        3 => {
+            if word % 8 == 0 {
+                Some(Instruction::Out(Register::from_bits(word / 512)))
+            } else {
+                None
+            }
+        }
+        4 => Some(Instruction::Addi(with_imm6(word))),
+        5 => Some(Instruction::Shf(with_imm6(word))),
+        6 => Some(Instruction::Lw(with_imm6(word))),
+        7 => Some(Instruction::Sw(with_imm6(word))),
+        8 => Some(Instruction::Lli(with_imm8(word))),
+        9 => Some(Instruction::Lui(with_imm8(word))),
+        10 => Some(Instruction::Branch(Test::Equal, with_imm8(word))),
+        11 => Some(Instruction::Branch(Test::NotEqual, with_imm8(word))),
+        12 => Some(Instruction::Branch(Test::Greater, with_imm8(word))),
+        13 => Some(Instruction::Branch(Test::GreaterEqual, with_imm8(word))),
+        14 => Some(Instruction::Branch(Test::Less, with_imm8(word))),
+        _ => Some(Instruction::Branch(Test::LessEqual, with_imm8(word))),
+    }
+}
+
+fn pack_registers(code: u16, rd: Register, rs1: Register, rs2: Register, function: u16) -> u16
+    requires { ⌜ code < 16 ⌝ ∗ ⌜ function < 8 ⌝ }
+    ensures { λ r. ⌜ r ≡ of-registers code rd rs1 rs2 function ⌝ }
+{
+    code * 4096 + rd.number() * 512 + rs1.number() * 64 + rs2.number() * 8 + function
+}
+
+fn pack_imm6(code: u16, o: RegistersImm6) -> u16
+    requires { ⌜ code < 16 ⌝ }
+    ensures { λ r. ⌜ r ≡ of-imm6 code o ⌝ }
+{
+    code * 4096 + o.rd.number() * 512 + o.rs1.number() * 64 + o.imm.bits()
+}
+
+fn pack_imm8(code: u16, o: RegisterImm8) -> u16
+    requires { ⌜ code < 16 ⌝ }
+    ensures { λ r. ⌜ r ≡ of-imm8 code o ⌝ }
+{
+    code * 4096 + o.rd.number() * 512 + o.imm.bits()
+}
+
+fn pack(instruction: Instruction) -> u16
+    ensures { λ r. ⌜ r ≡ encoded instruction ⌝ }
+{
+    match instruction {
+        Instruction::Compute(f, o) => pack_registers(0, o.rd, o.rs1, o.rs2, f.code()),
+        Instruction::Not(o) => pack_registers(0, o.rd, o.rs1, Register::R0, 4),
+        Instruction::Jalr(o) => pack_registers(1, o.rd, o.rs1, Register::R0, 0),
+        Instruction::In(rd) => pack_registers(2, rd, Register::R0, Register::R0, 0),
+        Instruction::Out(rd) => pack_registers(3, rd, Register::R0, Register::R0, 0),
+        Instruction::Addi(o) => pack_imm6(4, o),
+        Instruction::Shf(o) => pack_imm6(5, o),
+        Instruction::Lw(o) => pack_imm6(6, o),
+        Instruction::Sw(o) => pack_imm6(7, o),
+        Instruction::Lli(o) => pack_imm8(8, o),
+        Instruction::Lui(o) => pack_imm8(9, o),
+        Instruction::Branch(t, o) => pack_imm8(t.code(), o),
+    }
+}
+
 impl Instruction {
     /// The instruction that a word stands for; unassigned words have none.
     pub fn decode(word: u16) -> Option<Instruction>
-        ensures { λ r. ⌜ r ≡ decoded word ⌝ }
+        ensures value { λ r. ⌜ r ≡ decoded word ⌝ }
+        ensures word { λ r. ⌜ Word-of word r ⌝ }
+        ensures ignored { λ r. ⌜ ((i : Instruction) (bits : ℕ) → word ≡ encoded i + unused i bits → r ≡ Some i) ⌝ }
     {
-        match word / 4096 {
-            0 => match word % 8 {
-                0 => Some(Instruction::Compute(Function::Add, three_of(word))),
-                1 => Some(Instruction::Compute(Function::Sub, three_of(word))),
-                2 => Some(Instruction::Compute(Function::And, three_of(word))),
-                3 => Some(Instruction::Compute(Function::Or, three_of(word))),
-                4 => Some(Instruction::Not(two_of(word))),
-                _ => None,
-            },
-            1 => Some(Instruction::Jalr(two_of(word))),
-            2 => Some(Instruction::In(Register::from_bits(word / 512))),
-            3 => {
-                if word % 8 == 0 {
-                    Some(Instruction::Out(Register::from_bits(word / 512)))
-                } else {
-                    None
-                }
-            }
-            4 => Some(Instruction::Addi(with_imm6(word))),
-            5 => Some(Instruction::Shf(with_imm6(word))),
-            6 => Some(Instruction::Lw(with_imm6(word))),
-            7 => Some(Instruction::Sw(with_imm6(word))),
-            8 => Some(Instruction::Lli(with_imm8(word))),
-            9 => Some(Instruction::Lui(with_imm8(word))),
-            10 => Some(Instruction::Branch(Test::Equal, with_imm8(word))),
-            11 => Some(Instruction::Branch(Test::NotEqual, with_imm8(word))),
-            12 => Some(Instruction::Branch(Test::Greater, with_imm8(word))),
-            13 => Some(Instruction::Branch(Test::GreaterEqual, with_imm8(word))),
-            14 => Some(Instruction::Branch(Test::Less, with_imm8(word))),
-            _ => Some(Instruction::Branch(Test::LessEqual, with_imm8(word))),
-        }
+        read(word)
     }
 
     /// The word that stands for the instruction, its unused bits zero.
     pub fn encode(self) -> u16
-        ensures { λ r. ⌜ r ≡ encoded self ⌝ }
+        ensures value { λ r. ⌜ r ≡ encoded self ⌝ }
+        ensures undone { λ r. ⌜ decoded r ≡ Some self ⌝ }
     {
-        match self {
-            Instruction::Compute(f, o) => pack_registers(0, o.rd, o.rs1, o.rs2, f.code()),
-            Instruction::Not(o) => pack_registers(0, o.rd, o.rs1, Register::R0, 4),
-            Instruction::Jalr(o) => pack_registers(1, o.rd, o.rs1, Register::R0, 0),
-            Instruction::In(rd) => pack_registers(2, rd, Register::R0, Register::R0, 0),
-            Instruction::Out(rd) => pack_registers(3, rd, Register::R0, Register::R0, 0),
-            Instruction::Addi(o) => pack_imm6(4, o),
-            Instruction::Shf(o) => pack_imm6(5, o),
-            Instruction::Lw(o) => pack_imm6(6, o),
-            Instruction::Sw(o) => pack_imm6(7, o),
-            Instruction::Lli(o) => pack_imm8(8, o),
-            Instruction::Lui(o) => pack_imm8(9, o),
-            Instruction::Branch(t, o) => pack_imm8(t.code(), o),
-        }
+        pack(self)
     }
 
     /// The cycles that the instruction's word costs.
@@ -243,25 +281,4 @@ impl Instruction {
     {
         1
     }
-}
-
-fn pack_registers(code: u16, rd: Register, rs1: Register, rs2: Register, function: u16) -> u16
-    requires { ⌜ code < 16 ⌝ ∗ ⌜ function < 8 ⌝ }
-    ensures { λ r. ⌜ r ≡ Rattle.words.specs.Coding.of-registers code rd rs1 rs2 function ⌝ }
-{
-    code * 4096 + rd.number() * 512 + rs1.number() * 64 + rs2.number() * 8 + function
-}
-
-fn pack_imm6(code: u16, o: RegistersImm6) -> u16
-    requires { ⌜ code < 16 ⌝ }
-    ensures { λ r. ⌜ r ≡ Rattle.words.specs.Coding.of-imm6 code o ⌝ }
-{
-    code * 4096 + o.rd.number() * 512 + o.rs1.number() * 64 + o.imm.bits()
-}
-
-fn pack_imm8(code: u16, o: RegisterImm8) -> u16
-    requires { ⌜ code < 16 ⌝ }
-    ensures { λ r. ⌜ r ≡ Rattle.words.specs.Coding.of-imm8 code o ⌝ }
-{
-    code * 4096 + o.rd.number() * 512 + o.imm.bits()
 }

@@ -38,6 +38,7 @@ module _ (a bits n : ℕ) (word : a < 65536) (six : bits < 64) where
       low h =
           let q : bits ≡ n = omega (arith, ints, sym (from-low 32 bits h) ∙ e) in
           shifted-low a bits h ∙ ap (λ k. a * 2 ^ k % 65536) q
+
       high : 32 ≤ bits → shifted a bits ≡ a * 2 ^ n % 65536
       high h = absurd (omega (arith, ints, sym (from-high 32 bits h) ∙ e))
 
@@ -50,6 +51,7 @@ module _ (a bits n : ℕ) (word : a < 65536) (six : bits < 64) where
           let r : 0 ≡ n = omega (arith, ints, sym (from-low 32 bits h) ∙ e) in
           let whole : a * 1 % 65536 ≡ a / 1 = omega arith in
           shifted-low a bits h ∙ ap (λ k. a * 2 ^ k % 65536) q ∙ whole ∙ ap (λ k. a / 2 ^ k) r
+
       high : 32 ≤ bits → shifted a bits ≡ a / 2 ^ n
       high h =
           let q : 64 - bits ≡ n = omega (arith, ints, sym (from-high 32 bits h) ∙ e) in

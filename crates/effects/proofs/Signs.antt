@@ -82,6 +82,7 @@ extended-signed half bits h k = ⊎-elim low high (cases-lt bits half)
     low l =
         ap signed (cond-true (ltb bits half) bits (bits + (65536 - 2 * half)) (lt-ltb bits half l))
         ∙ from-low 32768 bits (omega arith) ∙ sym (from-low half bits l)
+
     high : half ≤ bits → signed (extended half bits) ≡ signed-from half bits
     high l =
         ap signed (cond-false (ltb bits half) bits (bits + (65536 - 2 * half)) (le-ltb bits half l))

@@ -38,7 +38,7 @@ pub goes-on : (words left k : ℕ) (s t : State) → 0 < left → t ≡ step-of 
 goes-on words left k s t h p q = goes-more words left s h ∙ ap (follows words left s) (sym q) ∙ ap (λ u. adding k (goes words (left - k) u)) (sym p)
 
 pub goes-off : (words left : ℕ) (s t : State) (stop : Stop) → 0 < left → t ≡ step-of s .after → Err stop ≡ step-of s .answer → goes (suc words) left s ≡ ended stop t
-goes-off words left s t stop h p q = goes-more words left s h ∙ ap (follows words left s) (sym q) ∙ ap (ended stop) (sym (p ∙ stays s stop q))
+goes-off words left s t stop h p q = goes-more words left s h ∙ ap (follows words left s) (sym q) ∙ ap (ended stop) (sym (p ∙ stays s stop q .0))
 
 pub adding-twice : (d k : ℕ) (r : Ran) → adding d (adding k r) ≡ adding (d + k) r
 adding-twice d k r = let e : d + (k + r .cycles) ≡ d + k + r .cycles = omega arith in ap (λ n. record { stop = r .stop; cycles = n; after = r .after }) e

@@ -53,12 +53,15 @@ abbrev pub sized : ℕ → ℕ → Result Unit Refusal
 sized size n = cond (unfit n || not (eqb n size)) (Err Memory) (Ok tt)
 
 -- the memory becomes the image and zeros behind it
+abbrev pub accepted : List ℕ → Standing → Served Unit
+accepted image s =
+    let n : ℕ = length (s .state .memory) in
+    record { answer = Ok tt; after = fresh n (image ++ replicate (n - length image) 0) (s .state .port) }
+
 abbrev pub loading : List ℕ → Standing → Served Unit
 loading image s =
-    let n : ℕ = length (s .state .memory) in
-    cond (unfit n) (refusing Memory s)
-    (cond (ltb n (length image)) (refusing Image s)
-    (record { answer = Ok tt; after = fresh n (image ++ replicate (n - length image) 0) (s .state .port) }))
+    cond (unfit (length (s .state .memory))) (refusing Memory s)
+    (cond (ltb (length (s .state .memory)) (length image)) (refusing Image s) (accepted image s))
 
 -- the run's answer; its cycles are added to the count
 abbrev pub counted : Standing → Ran → Served Report

@@ -1,0 +1,4 @@
+pub mod Parts
+pub mod Zeros
+pub mod Loads
+pub mod Samples

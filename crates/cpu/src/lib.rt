@@ -66,9 +66,9 @@ impl From<Full> for Stop as StopFromFull {
 /// Registers and program counter, and whether the halting word has been done.
 #[derive(Clone, Copy)]
 pub struct Cpu {
-    registers: RegisterFile,
-    pc: u16,
-    halted: bool,
+    pub registers: RegisterFile,
+    pub pc: u16,
+    pub halted: bool,
 }
 
 impl Cpu {
@@ -81,24 +81,6 @@ impl Cpu {
             pc: 0,
             halted: false,
         }
-    }
-
-    pub fn registers(&self) -> RegisterFile
-        ensures { λ r. ⌜ r ≡ now (self .entry) .registers ⌝ }
-    {
-        self.registers
-    }
-
-    pub fn pc(&self) -> u16
-        ensures { λ r. ⌜ r ≡ now (self .entry) .pc ⌝ }
-    {
-        self.pc
-    }
-
-    pub fn halted(&self) -> bool
-        ensures { λ r. ⌜ r ≡ now (self .entry) .halted ⌝ }
-    {
-        self.halted
     }
 
     // The register receives the word, and the program counter goes on.
@@ -166,19 +148,19 @@ impl Cpu {
                 Ok(instruction.cost())
             }
             Instruction::Lw(o) => {
-                let at = self.registers.get(o.rs1).wrapping_add(o.imm.word()) as usize;
-                if at >= memory.len() {
+                let from = self.registers.get(o.rs1).wrapping_add(o.imm.word()) as usize;
+                if from >= memory.len() {
                     return Err(Stop::Outside);
                 }
-                self.put(o.rd, memory[at]);
+                self.put(o.rd, memory[from]);
                 Ok(instruction.cost())
             }
             Instruction::Sw(o) => {
-                let at = self.registers.get(o.rs1).wrapping_add(o.imm.word()) as usize;
-                if at >= memory.len() {
+                let to = self.registers.get(o.rs1).wrapping_add(o.imm.word()) as usize;
+                if to >= memory.len() {
                     return Err(Stop::Outside);
                 }
-                memory[at] = self.registers.get(o.rd);
+                memory[to] = self.registers.get(o.rd);
                 self.pc = self.next();
                 Ok(instruction.cost())
             }

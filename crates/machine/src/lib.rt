@@ -94,7 +94,7 @@ fn work<P: Port>(cpu: &mut Cpu, budget: u32, memory: &mut [u16], port: &mut P) -
             Err(stop) => return Report { stop, cycles },
         }
     }
-    let stop = if cpu.halted() {
+    let stop = if cpu.halted {
         Stop::Halted
     } else {
         Stop::Spent
@@ -172,8 +172,8 @@ impl Machine {
     {
         self.expect(memory)?;
         Ok(Look {
-            registers: self.cpu.registers(),
-            pc: self.cpu.pc(),
+            registers: self.cpu.registers,
+            pc: self.cpu.pc,
             count: self.count,
         })
     }

@@ -9,6 +9,8 @@ use super::immediates::Imm6;
 use super::immediates::Imm8;
 use super::registers::Register;
 
+const WORD_CYCLES: u32 = 1;
+
 /// Operands of `add`, `sub`, `and` and `or`.
 #[derive(Clone, Copy)]
 pub struct ThreeRegisters {
@@ -279,6 +281,6 @@ impl Instruction {
     pub fn cost(self) -> u32
         ensures { λ r. ⌜ r ≡ cost-of self ⌝ }
     {
-        1
+        WORD_CYCLES
     }
 }

@@ -33,7 +33,7 @@ impl Imm6 {
         ensures value { λ r. ⌜ r ≡ self .bits ⌝ }
         ensures bound { λ r. ⌜ r < 64 ⌝ }
     {
-        u16::from(self.bits)
+        self.bits as u16
     }
 
     /// The signed value, -32 to 31, as a word.

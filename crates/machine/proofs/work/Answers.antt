@@ -1,5 +1,5 @@
 use mathlib.Core.Bool.{Bool}
-use mathlib.Core.Path.{ap, _∙_}
+use mathlib.Core.Path.{sym, ap, _∙_}
 use native.Mathlib.Omega.{arith}
 use Rattle.port.specs.Kinds.{seen}
 use Rattle.cpu.specs.States.{State, state}
@@ -33,18 +33,18 @@ returns-in-Err g c =
       bound = c .loop-cycles .inv .0;
     }
 
-pub returns-then-halted : need.returns-then-halted
-returns-then-halted g c =
+pub returns-then-cpu : need.returns-then-cpu
+returns-then-cpu g c =
     let s = state (c .loop-cycles .cpu) (c .loop-cycles .memory) (seen (g .P·Port) (c .loop-cycles .port)) in
     record {
-      answer = ap (λ (b : Bool). record { stop = at-end b; cycles = c .loop-cycles .cycles; after = s }) (c .if-halted .ensures tt) ∙ done (c .args .budget) _ s _ (c .loop-cycles .inv .1) (c .loop-cycles-test .left);
+      answer = ap (λ (b : Bool). record { stop = at-end b; cycles = c .loop-cycles .cycles; after = s }) (sym (c .if-cpu .taken)) ∙ done (c .args .budget) _ s _ (c .loop-cycles .inv .1) (c .loop-cycles-test .left);
       bound = c .loop-cycles .inv .0;
     }
 
-pub returns-else-halted : need.returns-else-halted
-returns-else-halted g c =
+pub returns-else-cpu : need.returns-else-cpu
+returns-else-cpu g c =
     let s = state (c .loop-cycles .cpu) (c .loop-cycles .memory) (seen (g .P·Port) (c .loop-cycles .port)) in
     record {
-      answer = ap (λ (b : Bool). record { stop = at-end b; cycles = c .loop-cycles .cycles; after = s }) (c .if-halted .ensures tt) ∙ done (c .args .budget) _ s _ (c .loop-cycles .inv .1) (c .loop-cycles-test .left);
+      answer = ap (λ (b : Bool). record { stop = at-end b; cycles = c .loop-cycles .cycles; after = s }) (sym (c .if-cpu .left)) ∙ done (c .args .budget) _ s _ (c .loop-cycles .inv .1) (c .loop-cycles-test .left);
       bound = c .loop-cycles .inv .0;
     }

@@ -1,0 +1,5 @@
+pub mod Capped
+pub mod Prefixes
+pub mod Values
+pub mod Told
+pub mod Spelled

@@ -1,16 +1,13 @@
 // The processor: registers, program counter and whether it has halted; one word done at a time.
 ghost use mathlib.Core.Path.{_≡_};
-ghost use mathlib.Core.Bool.{cond, false};
-ghost use Prim.Native.Nat.{ℕ, _+_, _%_};
-ghost use lib.ListN.{replicate};
+ghost use mathlib.Core.Bool.{false};
+ghost use Prim.Native.Nat.{ℕ};
 ghost use Rattle.words.specs.Registers.{written, zeros};
-ghost use Rattle.words.specs.Values.{wrapped};
-ghost use Rattle.words.specs.Acts.{behind, act};
+ghost use Rattle.words.specs.Acts.{behind};
 ghost use Rattle.port.specs.Kinds.{seen};
 ghost use Rattle.cpu.specs.States.{state, held};
-ghost use Rattle.cpu.specs.Steps.{step-of, perform};
+ghost use Rattle.cpu.specs.Steps.{step-of};
 ghost use Rattle.cpu.specs.Stops.{stop-number};
-ghost use Rattle.words.specs.Coding.{cost-of};
 ghost use Rattle.cpu.specs.declared.Stop.the-variants.{Dry as stop-dry, Full as stop-full};
 use port::Dry;
 use port::Full;
@@ -66,9 +63,10 @@ impl From<Full> for Stop as StopFromFull {
 /// Registers and program counter, and whether the halting word has been done.
 #[derive(Clone, Copy)]
 pub struct Cpu {
-    pub registers: RegisterFile,
     pub pc: u16,
     pub halted: bool,
+    // Last, so that a write to a register, by its number, is seen to leave the fields above alone.
+    pub registers: RegisterFile,
 }
 
 impl Cpu {
@@ -77,9 +75,9 @@ impl Cpu {
         ensures { λ r. ⌜ held r ≡ record { registers = zeros; place = 0; halted = false } ⌝ }
     {
         Cpu {
-            registers: RegisterFile::new(),
             pc: 0,
             halted: false,
+            registers: RegisterFile::new(),
         }
     }
 
@@ -87,7 +85,7 @@ impl Cpu {
     fn put(&mut self, register: Register, word: u16)
         ensures { λ _. ⌜ held (now (self .exit)) ≡ record { registers = written (now (self .entry) .registers .words) register word; place = behind (now (self .entry) .pc); halted = now (self .entry) .halted } ⌝ }
     {
-        self.registers = self.registers.with(register, word);
+        self.registers.set(register, word);
         self.pc = self.pc.wrapping_add(1);
     }
 
@@ -97,15 +95,21 @@ impl Cpu {
         self.pc.wrapping_add(1)
     }
 
-    fn execute<P: Port>(
-        &mut self,
-        instruction: Instruction,
-        memory: &mut [u16],
-        port: &mut P,
-    ) -> Result<u32, Stop>
-        ensures after { λ _. ⌜ state (now (self .exit)) (now (memory .exit)) (seen P·Port (now (port .exit))) ≡ perform (cost-of instruction) (act instruction (now (self .entry) .pc) (now (self .entry) .registers .words)) (state (now (self .entry)) (now (memory .entry)) (seen P·Port (now (port .entry)))) .after ⌝ }
-        ensures answer { λ r. ⌜ r ≡ perform (cost-of instruction) (act instruction (now (self .entry) .pc) (now (self .entry) .registers .words)) (state (now (self .entry)) (now (memory .entry)) (seen P·Port (now (port .entry)))) .answer ⌝ }
+    /// Does one word and answers what it costs, or stops and alters nothing.
+    pub fn step<P: Port>(&mut self, memory: &mut [u16], port: &mut P) -> Result<u32, Stop>
+        ensures after { λ _. ⌜ state (now (self .exit)) (now (memory .exit)) (seen P·Port (now (port .exit))) ≡ step-of (state (now (self .entry)) (now (memory .entry)) (seen P·Port (now (port .entry)))) .after ⌝ }
+        ensures answer { λ r. ⌜ r ≡ step-of (state (now (self .entry)) (now (memory .entry)) (seen P·Port (now (port .entry)))) .answer ⌝ }
     {
+        if self.halted {
+            return Err(Stop::Halted);
+        }
+        let at = self.pc as usize;
+        if at >= memory.len() {
+            return Err(Stop::Outside);
+        }
+        let Some(instruction) = Instruction::decode(memory[at]) else {
+            return Err(Stop::Unassigned);
+        };
         match instruction {
             Instruction::Compute(function, o) => {
                 let word = function.apply(self.registers.get(o.rs1), self.registers.get(o.rs2));
@@ -181,24 +185,6 @@ impl Cpu {
                 }
                 Ok(instruction.cost())
             }
-        }
-    }
-
-    /// Does one word and answers what it costs, or stops and alters nothing.
-    pub fn step<P: Port>(&mut self, memory: &mut [u16], port: &mut P) -> Result<u32, Stop>
-        ensures after { λ _. ⌜ state (now (self .exit)) (now (memory .exit)) (seen P·Port (now (port .exit))) ≡ step-of (state (now (self .entry)) (now (memory .entry)) (seen P·Port (now (port .entry)))) .after ⌝ }
-        ensures answer { λ r. ⌜ r ≡ step-of (state (now (self .entry)) (now (memory .entry)) (seen P·Port (now (port .entry)))) .answer ⌝ }
-    {
-        if self.halted {
-            return Err(Stop::Halted);
-        }
-        let at = self.pc as usize;
-        if at >= memory.len() {
-            return Err(Stop::Outside);
-        }
-        match Instruction::decode(memory[at]) {
-            Some(instruction) => self.execute(instruction, memory, port),
-            None => Err(Stop::Unassigned),
         }
     }
 }

@@ -14,7 +14,7 @@ use Rattle.cpu.specs.States.{State}
 use Rattle.cpu.specs.Steps.{step-of}
 use Rattle.cpu.proofs.Turns.{costs-one, stays}
 use Rattle.machine.specs.Runs.{Ran, ended, adding, at-end, goes, run-of}
-use Rattle.machine.proofs.Going.{goes-none, goes-spent, goes-on, goes-off, adding-twice}
+use Rattle.machine.proofs.Going.{goes-none, goes-spent, goes-on, goes-off, adding-twice, halted-run}
 use Rattle.laws.specs.Laws.{and-then, Budget-in-parts, Kept, Within-budget}
 
 -- what an answer of a word leaves is told with the answer itself
@@ -24,16 +24,6 @@ by-answer {P} s f g = by (step-of s .answer) refl
     by : (a : Result ℕ Stop) → a ≡ step-of s .answer → P
     by (Ok k) e = f k e
     by (Err stop) e = g stop e
-
--- a halted machine's run ends at once
-halted-step : (s : State) → s .halted ≡ true → step-of s .answer ≡ Err Halted
-halted-step s h = rw h
-
-halted-ends : (budget : ℕ) (s : State) → s .halted ≡ true → run-of budget s ≡ ended Halted s
-halted-ends zero s h = goes-none 0 s ∙ ap (λ b. ended (at-end b) s) h
-halted-ends (suc n) s h =
-    let e = sym (halted-step s h) in
-    goes-off n (suc n) s (step-of s .after) Halted (omega arith) refl e ∙ ap (ended Halted) (stays s Halted e .0)
 
 adding-none : (r : Ran) → adding 0 r ≡ r
 adding-none r = ap (λ n. record { stop = r .stop; cycles = n; after = r .after }) (zero-add (r .cycles))
@@ -55,7 +45,7 @@ then-ended budget s Outside h = refl
 then-ended budget s Unassigned h = refl
 
 none-first : (b : ℕ) (s : State) (halted : Bool) → s .halted ≡ halted → run-of b s ≡ and-then b (at-end halted) (ended (at-end halted) s)
-none-first b s true h = halted-ends b s h
+none-first b s true h = halted-run b s h
 none-first b s false h = sym (adding-none (run-of b s))
 
 pub in-parts : Budget-in-parts

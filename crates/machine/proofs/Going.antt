@@ -9,6 +9,7 @@ use Rattle.std.proofs.shelf.Tests.{ne-eqb}
 use Rattle.std.specs.declared.result.Result.{Result}
 use Rattle.std.specs.declared.result.Result.the-variants.{Ok, Err}
 use Rattle.cpu.specs.declared.Stop.{Stop}
+use Rattle.cpu.specs.declared.Stop.the-variants.{Halted, Spent}
 use Rattle.cpu.specs.States.{State}
 use Rattle.cpu.specs.Steps.{step-of}
 use Rattle.cpu.proofs.Turns.{costs-one, stays}
@@ -63,9 +64,22 @@ module _ (b d : ℕ) (s t : State) (whole : Ran) (so-far : adding d (goes (b - d
       ∙ ap (adding d) (sym (ap (λ n. goes n (b - d) s) left-is ∙ goes-off (b - (d + 1)) (b - d) s t stop (omega arith) same q))
       ∙ so-far
 
-pub done : (b d : ℕ) (s : State) (whole : Ran) → adding d (goes (b - d) (b - d) s) ≡ whole → b ≤ d → record { stop = at-end (s .halted); cycles = d; after = s } ≡ whole
-done b d s whole so-far h =
+pub done : (b d : ℕ) (s : State) (whole : Ran) → adding d (goes (b - d) (b - d) s) ≡ whole → b ≤ d → s .halted ≡ false → record { stop = Spent; cycles = d; after = s } ≡ whole
+done b d s whole so-far h live =
     let none : b - d ≡ 0 = omega arith in
-    ap (λ n. record { stop = at-end (s .halted); cycles = n; after = s }) (sym (add-zero d))
-    ∙ ap (adding d) (sym (ap (λ n. goes n n s) none ∙ goes-none 0 s))
+    ap (λ n. record { stop = Spent; cycles = n; after = s }) (sym (add-zero d))
+    ∙ ap (adding d) (sym (ap (λ n. goes n n s) none ∙ goes-none 0 s ∙ ap (λ b. ended (at-end b) s) live))
+    ∙ so-far
+
+-- a halted machine does no word
+pub halted-run : (budget : ℕ) (s : State) → s .halted ≡ true → run-of budget s ≡ ended Halted s
+halted-run zero s h = goes-none 0 s ∙ ap (λ b. ended (at-end b) s) h
+halted-run (suc n) s h =
+    let e : Err Halted ≡ step-of s .answer = rw h in
+    goes-off n (suc n) s (step-of s .after) Halted (omega arith) refl e ∙ ap (ended Halted) (stays s Halted e .0)
+
+pub rests : (b d : ℕ) (s : State) (whole : Ran) → adding d (goes (b - d) (b - d) s) ≡ whole → s .halted ≡ true → record { stop = Halted; cycles = d; after = s } ≡ whole
+rests b d s whole so-far h =
+    ap (λ n. record { stop = Halted; cycles = n; after = s }) (sym (add-zero d))
+    ∙ ap (adding d) (sym (halted-run (b - d) s h))
     ∙ so-far

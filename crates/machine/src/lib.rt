@@ -50,10 +50,10 @@ pub struct Look {
 
 #[derive(Clone, Copy)]
 pub struct Machine {
-    cpu: Cpu,
     // The words of the loaded memory, 0 before a first load.
     size: usize,
     count: u32,
+    cpu: Cpu,
 }
 
 impl Refusal {
@@ -88,7 +88,7 @@ fn work<P: Port>(cpu: &mut Cpu, budget: u32, memory: &mut [u16], port: &mut P) -
     ensures bound { λ r. ⌜ r .cycles ≤ budget ⌝ }
 {
     let mut cycles = 0;
-    while cycles < budget {
+    while cycles < budget && !cpu.halted {
         match cpu.step(memory, port) {
             Ok(cost) => cycles += cost,
             Err(stop) => return Report { stop, cycles },
@@ -108,9 +108,9 @@ impl Machine {
         ensures { λ r. ⌜ ((memory : List ℕ) (port : Meaning) → stands r memory port ≡ unloaded memory port) ⌝ }
     {
         Machine {
-            cpu: Cpu::new(),
             size: 0,
             count: 0,
+            cpu: Cpu::new(),
         }
     }
 

@@ -26,14 +26,13 @@ impl RegisterFile {
         self.words[register as usize]
     }
 
-    /// The file with a register's word replaced; a write to r0 is dropped.
-    pub fn with(self, register: Register, word: u16) -> RegisterFile
-        ensures { λ r. ⌜ r .words ≡ written (self .words) register word ⌝ }
+    /// Replaces a register's word; a write to r0 is dropped.
+    pub fn set(&mut self, register: Register, word: u16)
+        ensures { λ _. ⌜ now (self .exit) .words ≡ written (now (self .entry) .words) register word ⌝ }
     {
-        let mut words = self.words;
-        if register as usize != 0 {
-            words[register as usize] = word;
+        let at = register as usize;
+        if at != 0 {
+            self.words[at] = word;
         }
-        RegisterFile { words }
     }
 }

@@ -1,12 +1,13 @@
-use mathlib.Core.Bool.{Bool}
+use Prim.Native.Nat.{_≤_}
+use mathlib.Core.Bool.{true≢false}
 use mathlib.Core.Path.{sym, ap, _∙_}
 use native.Mathlib.Omega.{arith}
 use Rattle.port.specs.Kinds.{seen}
 use Rattle.cpu.specs.States.{State, state}
 use Rattle.cpu.proofs.Turns.{costs-one}
-use Rattle.machine.specs.Runs.{at-end}
-use Rattle.machine.proofs.Going.{again, stopped, done}
+use Rattle.machine.proofs.Going.{again, stopped, done, rests}
 use Rattle.machine.proofs.work.Needs as need
+use Rattle.machine.proofs.work.Needs.{then-loop-cycles-test·else-not-cpu, else-loop-cycles-test}
 
 pub add-cycles : need.add-cycles
 add-cycles g c =
@@ -37,14 +38,18 @@ pub returns-then-cpu : need.returns-then-cpu
 returns-then-cpu g c =
     let s = state (c .loop-cycles .cpu) (c .loop-cycles .memory) (seen (g .P·Port) (c .loop-cycles .port)) in
     record {
-      answer = ap (λ (b : Bool). record { stop = at-end b; cycles = c .loop-cycles .cycles; after = s }) (sym (c .if-cpu .taken)) ∙ done (c .args .budget) _ s _ (c .loop-cycles .inv .1) (c .loop-cycles-test .left);
+      answer = rests (c .args .budget) (c .loop-cycles .cycles) s _ (c .loop-cycles .inv .1) (c .if-cpu .taken);
       bound = c .loop-cycles .inv .0;
     }
 
 pub returns-else-cpu : need.returns-else-cpu
 returns-else-cpu g c =
     let s = state (c .loop-cycles .cpu) (c .loop-cycles .memory) (seen (g .P·Port) (c .loop-cycles .port)) in
+    let over : c .args .budget ≤ c .loop-cycles .cycles = elim (c .loop-cycles-test .came) [
+      | then-loop-cycles-test·else-not-cpu w ↦ absurd (true≢false (sym (w .if-not-cpu .left) ∙ c .if-cpu .left))
+      | else-loop-cycles-test w ↦ omega arith
+    ] in
     record {
-      answer = ap (λ (b : Bool). record { stop = at-end b; cycles = c .loop-cycles .cycles; after = s }) (sym (c .if-cpu .left)) ∙ done (c .args .budget) _ s _ (c .loop-cycles .inv .1) (c .loop-cycles-test .left);
+      answer = done (c .args .budget) (c .loop-cycles .cycles) s _ (c .loop-cycles .inv .1) over (c .if-cpu .left);
       bound = c .loop-cycles .inv .0;
     }

@@ -3,3 +3,4 @@ pub mod Prefixes
 pub mod Values
 pub mod Told
 pub mod Spelled
+pub mod Places

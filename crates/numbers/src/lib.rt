@@ -5,8 +5,10 @@ ghost use Rattle.std.specs.Options.{mapped};
 ghost use Rattle.numbers.specs.Texts.{Reads-texts, Has-texts};
 ghost use Rattle.numbers.specs.Reading.{bits-of, digits-from, pattern, positive, negative, after-sign, reading};
 
+mod decimals;
 mod hex;
 
+pub use decimals::write_decimal;
 pub use hex::write_hex;
 
 /// The bits that a number is read into.

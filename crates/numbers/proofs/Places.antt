@@ -32,6 +32,7 @@ last-digit n h = ⊎-elim one more (cases-lt n 10)
     one l =
         let e : n ≡ n % 10 = omega arith in
         decimal-digit n l ∙ ap (λ d. (48 + d) ∷ []) e ∙ ap (λ ds. ds ++ ((48 + n % 10) ∷ [])) (sym (none-higher n l))
+
     more : 10 ≤ n → decimal n ≡ higher n ++ ((48 + n % 10) ∷ [])
     more l = decimal-step n l h ∙ ap (λ ds. ds ++ ((48 + n % 10) ∷ [])) (sym (some-higher n l))
 

@@ -1,14 +1,24 @@
-// Replays recorded switch words through two images, over a tape and over polarity over a tape.
-use cpu::Stop;
+// Replays switch words, recorded as text, through the image of a door program, and counts down over a tape.
+use image_file::read_image;
+use image_file::write_image;
 use machine::Machine;
-use machine::Refusal;
 use machine::Report;
 use port::Polarity;
 use port::PolarityPort;
 use port::Port;
 use port::Tape;
 use port::TapePort;
+use report::Refusal;
+use report::RefusalFromFile;
+use report::RefusalFromMachine;
+use report::RefusalFromText;
+use report::write_refusal;
 use std::io;
+use std::io::Read;
+use std::io::Write;
+use text_port::TextPort;
+use text_port::TextPortPort;
+use text_port::check_text;
 
 // Sends the four window switches each time one of them changes.
 //
@@ -40,33 +50,74 @@ static DOOR: [u16; 8] = [
 //         halt
 static COUNT_DOWN: [u16; 6] = [0x8203, 0x9200, 0x3200, 0x427F, 0xC2FD, 0x3000];
 
-// A recording of switches that read 1 when pressed, and the same of switches that read 0.
-static PRESSED_HIGH: [u16; 6] = [0x0000, 0x0001, 0x0001, 0x0003, 0x8003, 0x0000];
-
-static PRESSED_LOW: [u16; 6] = [0xFFFF, 0xFFFE, 0xFFFE, 0xFFFC, 0x7FFC, 0xFFFF];
-
 const WORDS: usize = 1024;
 
 const BUDGET: u32 = 1_000_000;
 
-fn replay_image<P: Port>(
-    image: &[u16],
-    memory: &mut [u16],
-    port: &mut P,
-) -> Result<Report, Refusal> {
+// Loads an image from its file and runs it.
+fn run_file<P: Port>(file: &[u8], port: &mut P) -> Result<Report, Refusal> {
+    let mut image = [0u16; 64];
+    let mut memory = [0u16; WORDS];
     let mut machine = Machine::new();
-    machine.load(image, memory)?;
-    machine.run(BUDGET, memory, port)
+    let count = read_image(file, &mut image)?;
+    machine.load(image.get(0..count).unwrap_or(&[]), &mut memory)?;
+    Ok(machine.run(BUDGET, &mut memory, port)?)
+}
+
+// Writes an image in its file form, and runs it from there.
+fn run_image<P: Port>(image: &[u16], port: &mut P) -> Result<Report, Refusal> {
+    let mut file = [0u8; 64];
+    let length = write_image(image, &mut file)?;
+    run_file(file.get(0..length).unwrap_or(&[]), port)
+}
+
+// Runs the door program over the recorded text, if it is one.
+fn over_text(text: &[u8], lines: &mut [u8]) -> Result<(usize, Report), Refusal> {
+    check_text(text)?;
+    let mut port = TextPort::new(text, lines);
+    let report = run_image(&DOOR, &mut port)?;
+    Ok((port.written().len(), report))
+}
+
+fn over_polarity(text: &[u8], lines: &mut [u8]) -> Result<(usize, Report), Refusal> {
+    check_text(text)?;
+    let mut port = Polarity::new(TextPort::new(text, lines), 0xFFFF);
+    let report = run_image(&DOOR, &mut port)?;
+    Ok((port.below().written().len(), report))
+}
+
+fn show_refusal(rt: &LibcRuntime, refusal: Refusal) -> io::Result<()> {
+    let mut line = [0u8; 64];
+    match write_refusal(refusal, &mut line) {
+        Ok(length) => rt.stdout().write_all(line.get(0..length).unwrap_or(&[])),
+        Err(_) => Ok(()),
+    }
 }
 
 fn show(
     rt: &LibcRuntime,
     title: &str,
-    sent: &[u16],
-    outcome: Result<Report, Refusal>,
+    lines: &[u8],
+    outcome: Result<(usize, Report), Refusal>,
 ) -> io::Result<()> {
     println!(rt, "{title}")?;
-    for word in sent {
+    match outcome {
+        Ok((length, report)) => {
+            rt.stdout().write_all(lines.get(0..length).unwrap_or(&[]))?;
+            let stop = report.stop.number();
+            let cycles = report.cycles;
+            println!(rt, "stop {stop} cycles {cycles}")
+        }
+        Err(refusal) => show_refusal(rt, refusal),
+    }
+}
+
+fn count_down(rt: &LibcRuntime) -> io::Result<()> {
+    let mut sent = [0u16; 8];
+    let mut tape = Tape::new(&[], &mut sent);
+    let outcome = run_image(&COUNT_DOWN, &mut tape);
+    println!(rt, "count-down over a tape")?;
+    for word in tape.sent() {
         println!(rt, "{word:04x}")?;
     }
     match outcome {
@@ -75,65 +126,21 @@ fn show(
             let cycles = report.cycles;
             println!(rt, "stop {stop} cycles {cycles}")
         }
-        Err(refusal) => {
-            let number = refusal.number();
-            println!(rt, "refused {number}")
-        }
+        Err(refusal) => show_refusal(rt, refusal),
     }
 }
 
-fn over_tape(
-    rt: &LibcRuntime,
-    title: &str,
-    image: &[u16],
-    words: &[u16],
-    memory: &mut [u16],
-) -> io::Result<()> {
-    let mut sent = [0u16; 16];
-    let mut tape = Tape::new(words, &mut sent);
-    let outcome = replay_image(image, memory, &mut tape);
-    show(rt, title, tape.sent(), outcome)
-}
-
-fn over_polarity(
-    rt: &LibcRuntime,
-    title: &str,
-    image: &[u16],
-    words: &[u16],
-    memory: &mut [u16],
-) -> io::Result<()> {
-    let mut sent = [0u16; 16];
-    let mut port = Polarity::new(Tape::new(words, &mut sent), 0xFFFF);
-    let outcome = replay_image(image, memory, &mut port);
-    show(rt, title, port.below().sent(), outcome)
-}
-
 fn main(rt: LibcRuntime) -> io::Result<()> {
-    let mut memory = [0u16; WORDS];
-    over_tape(
-        &rt,
-        "door switches over a tape",
-        &DOOR,
-        &PRESSED_HIGH,
-        &mut memory,
-    )?;
-    over_polarity(
-        &rt,
-        "door switches over polarity over a tape",
-        &DOOR,
-        &PRESSED_LOW,
-        &mut memory,
-    )?;
-    over_tape(&rt, "count-down over a tape", &COUNT_DOWN, &[], &mut memory)?;
-    over_polarity(
-        &rt,
-        "count-down over polarity over a tape",
-        &COUNT_DOWN,
-        &[],
-        &mut memory,
-    )?;
+    let mut text = Vec::new(rt.alloc());
+    rt.stdin().read_to_end(&mut text)?;
+    let mut lines = vec![in rt.alloc(); 0u8; 50_000]?;
+    let outcome = over_text(&text, &mut lines);
+    show(&rt, "door switches from the recorded text", &lines, outcome)?;
+    let outcome = over_polarity(&text, &mut lines);
+    show(&rt, "the same under polarity", &lines, outcome)?;
+    count_down(&rt)?;
     println!(
         rt,
-        "replayed two images, each over a tape and over polarity"
+        "replayed the recording twice through the door image, and the count-down once"
     )
 }

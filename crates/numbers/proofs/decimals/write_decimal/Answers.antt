@@ -19,8 +19,7 @@ loop-left-again c =
     let at = c .loop-left .at in
     let inv = c .loop-left .inv in
     let pos = some-place left at (c .loop-left-test .taken) (inv .1) in
-    let back : at ≡ at - 1 + 1 = omega arith in
-    (
+    let back : at ≡ at - 1 + 1 = omega arith in (
       one-place (c .args .n) left at (c .loop-left .places) (inv .0) (c .loop-left-test .taken) (inv .2) pos (omega arith),
       subst (λ k. left / 10 < 10 ^ k) back (fewer left at (inv .1)),
       omega arith,

@@ -1,11 +1,12 @@
 -- What each call answers, and the machine, memory and port after it. Assumes nothing.
-use Prim.Native.Nat.{ℕ, _+_, _-_}
-use mathlib.Core.List.{List, _++_}
+use Prim.Native.Nat.{ℕ, _+_}
+use mathlib.Core.List.{List}
 use mathlib.Core.Bool.{Bool, false, cond, not, _||_}
 use lib.Dec.{eqb, ltb}
-use lib.ListN.{length, getD, replicate}
+use lib.ListN.{length, getD}
 use Rattle.std.specs.declared.result.Result.{Result}
 use Rattle.std.specs.declared.result.Result.the-variants.{Ok, Err}
+use Rattle.buffers.specs.Buffers.{padded}
 use Rattle.port.specs.Meaning.{Meaning}
 use Rattle.words.specs.Registers.{zeros}
 use Rattle.cpu.specs.States.{State, state}
@@ -56,7 +57,7 @@ sized size n = cond (unfit n || not (eqb n size)) (Err Memory) (Ok tt)
 abbrev pub accepted : List ℕ → Standing → Served Unit
 accepted image s =
     let n : ℕ = length (s .state .memory) in
-    record { answer = Ok tt; after = fresh n (image ++ replicate (n - length image) 0) (s .state .port) }
+    record { answer = Ok tt; after = fresh n (padded image n) (s .state .port) }
 
 abbrev pub loading : List ℕ → Standing → Served Unit
 loading image s =

@@ -1,8 +1,9 @@
 // The machine: load, run, look and peek, with the memory and the port beside it.
 ghost use mathlib.Core.Path.{_≡_};
-ghost use Prim.Native.Nat.{ℕ, _≤_, _-_};
-ghost use mathlib.Core.List.{List, _++_};
-ghost use lib.ListN.{length, replicate};
+ghost use Prim.Native.Nat.{ℕ, _≤_};
+ghost use mathlib.Core.List.{List};
+ghost use lib.ListN.{length};
+ghost use Rattle.buffers.specs.Buffers.{padded};
 ghost use Rattle.std.specs.Vec.{refused};
 ghost use Rattle.port.specs.Meaning.{Meaning};
 ghost use Rattle.port.specs.Kinds.{seen};
@@ -74,7 +75,7 @@ impl Refusal {
 // Copies the image to the front of the memory, and zeroes the rest.
 fn lay(image: &[u16], memory: &mut [u16])
     requires { ⌜ length (now image) ≤ length (now memory) ⌝ }
-    ensures { λ _. ⌜ now (memory .exit) ≡ now (image .entry) ++ replicate (length (now (memory .entry)) - length (now (image .entry))) 0 ⌝ }
+    ensures { λ _. ⌜ now (memory .exit) ≡ padded (now (image .entry)) (length (now (memory .entry))) ⌝ }
 {
     let count = image.len();
     memory.fill(0);

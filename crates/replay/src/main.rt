@@ -94,6 +94,12 @@ fn show_refusal(rt: &LibcRuntime, refusal: Refusal) -> io::Result<()> {
     }
 }
 
+fn show_stop(rt: &LibcRuntime, report: Report) -> io::Result<()> {
+    let stop = report.stop.number();
+    let cycles = report.cycles;
+    println!(rt, "stop {stop} cycles {cycles}")
+}
+
 fn show(
     rt: &LibcRuntime,
     title: &str,
@@ -104,10 +110,24 @@ fn show(
     match outcome {
         Ok((length, report)) => {
             rt.stdout().write_all(lines.get(0..length).unwrap_or(&[]))?;
-            let stop = report.stop.number();
-            let cycles = report.cycles;
-            println!(rt, "stop {stop} cycles {cycles}")
+            show_stop(rt, report)
         }
+        Err(refusal) => show_refusal(rt, refusal),
+    }
+}
+
+fn show_words(
+    rt: &LibcRuntime,
+    title: &str,
+    words: &[u16],
+    outcome: Result<Report, Refusal>,
+) -> io::Result<()> {
+    println!(rt, "{title}")?;
+    for word in words {
+        println!(rt, "{word:04x}")?;
+    }
+    match outcome {
+        Ok(report) => show_stop(rt, report),
         Err(refusal) => show_refusal(rt, refusal),
     }
 }
@@ -116,18 +136,16 @@ fn count_down(rt: &LibcRuntime) -> io::Result<()> {
     let mut sent = [0u16; 8];
     let mut tape = Tape::new(&[], &mut sent);
     let outcome = run_image(&COUNT_DOWN, &mut tape);
-    println!(rt, "count-down over a tape")?;
-    for word in tape.sent() {
-        println!(rt, "{word:04x}")?;
-    }
-    match outcome {
-        Ok(report) => {
-            let stop = report.stop.number();
-            let cycles = report.cycles;
-            println!(rt, "stop {stop} cycles {cycles}")
-        }
-        Err(refusal) => show_refusal(rt, refusal),
-    }
+    show_words(rt, "count-down over a tape", tape.sent(), outcome)?;
+    let mut sent = [0u16; 8];
+    let mut port = Polarity::new(Tape::new(&[], &mut sent), 0xFFFF);
+    let outcome = run_image(&COUNT_DOWN, &mut port);
+    show_words(
+        rt,
+        "count-down over polarity over a tape",
+        port.below().sent(),
+        outcome,
+    )
 }
 
 fn main(rt: LibcRuntime) -> io::Result<()> {
@@ -141,6 +159,6 @@ fn main(rt: LibcRuntime) -> io::Result<()> {
     count_down(&rt)?;
     println!(
         rt,
-        "replayed the recording twice through the door image, and the count-down once"
+        "replayed the recording through the door image and the count-down image, each also under polarity"
     )
 }

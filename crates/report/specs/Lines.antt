@@ -18,6 +18,10 @@ use Rattle.report.specs.declared.Refusal.{Refusal}
 use Rattle.report.specs.declared.Refusal.the-variants.{Machine, File, Text}
 use Rattle.report.specs.declared.Short.{Short}
 
+-- a buffer that is too short
+abbrev pub short-number : Short → ℕ
+short-number s = 6
+
 -- a refusal's number, from the one definition of its kind
 abbrev pub number-of : Refusal → ℕ
 number-of (Machine r) = of-machine.refusal-number r

@@ -4,7 +4,7 @@ ghost use Prim.Native.Nat.{ℕ};
 ghost use lib.ListN.{length};
 ghost use Rattle.std.specs.Written.{decimal};
 ghost use Rattle.report.specs.Adding.{Added};
-ghost use Rattle.report.specs.Lines.{number-of, token-of, place-of, refusal-line, printing};
+ghost use Rattle.report.specs.Lines.{short-number, number-of, token-of, place-of, refusal-line, printing};
 ghost use Rattle.report.specs.declared.Refusal.the-variants.{Machine as by-machine, File as by-file, Text as by-text};
 use buffers::append;
 use numbers::write_decimal;
@@ -57,6 +57,17 @@ impl Refusal {
             Refusal::Machine(refusal) => refusal.number(),
             Refusal::File(refusal) => refusal.number(),
             Refusal::Text(refusal) => refusal.number(),
+        }
+    }
+}
+
+impl Short {
+    /// The refusal's number.
+    pub fn number(self) -> u8
+        ensures { λ r. ⌜ r ≡ short-number self ⌝ }
+    {
+        match self {
+            Short => 6,
         }
     }
 }

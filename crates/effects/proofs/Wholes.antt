@@ -7,7 +7,7 @@ use lib.Dec.{ltb}
 use lib.IntN.{ℤ, pos, _+ℤ_, _-ℤ_, negℤ}
 use Rattle.std.proofs.shelf.Signed.{ints}
 use Rattle.words.specs.Immediates.{extended}
-use Rattle.effects.specs.Whole.{signed-from, signed, Represents}
+use Rattle.effects.specs.Whole.{signed-from, signed, Represents, Represented-once, Signed-word}
 
 -- a number and a whole number that differ by a multiple of 65,536
 pub record Near (n : ℕ) (z : ℤ) : Type 0 where
@@ -55,3 +55,9 @@ complement-is a x h p = record {
   under = p .over;
   apart = omega (arith, ints, p .apart);
 }
+
+pub once : Represented-once
+once w v z p q = omega (arith, ints, p .word, q .word, p .apart, q .apart)
+
+pub of-signed : Signed-word
+of-signed w h = let n = near-word w in record { word = h; over = n .over; under = n .under; apart = n .apart }

@@ -28,3 +28,11 @@ pub record Represents (w : ℕ) (z : ℤ) : Type 0 where
   pub over : ℕ
   pub under : ℕ
   pub apart : z +ℤ pos (over * 65536) ≡ pos w +ℤ pos (under * 65536)
+
+-- a whole number has one word
+abbrev pub Represented-once : Type 0
+Represented-once = (w v : ℕ) (z : ℤ) → Represents w z → Represents v z → w ≡ v
+
+-- every word is the word of its signed value
+abbrev pub Signed-word : Type 0
+Signed-word = (w : ℕ) → w < 65536 → Represents w (signed w)

@@ -5,13 +5,12 @@ mod plain;
 mod proved;
 
 const WORDS: usize = 65536;
-const CYCLES_A_RUN: u64 = 1_000_000;
+const CYCLES_A_RUN: u32 = 1_000_000;
 
-/// What a machine leaves: the cycles, registers and program counter, and sums over memory and output.
+/// What a machine leaves: the cycles, and sums over memory and output.
 #[derive(PartialEq, Eq, Debug, Clone, Copy)]
 struct Left {
-    cycles: u64,
-    places: [u16; 9],
+    cycles: u32,
     memory: u64,
     output: u64,
 }
@@ -27,33 +26,25 @@ struct Job {
     image: Vec<u16>,
     input: Vec<u16>,
     room: usize,
-    runs: u32,
 }
 
-type Runs = fn(&[u16], &mut [u16], &[u16], &mut [u16], u32, &mut [u16; 9]) -> u64;
+const RUNS: u32 = 2;
+
+type Runs = fn(&[u16], &mut [u16], &[u16], &mut [u16], u32) -> u32;
 
 #[inline(never)]
-fn run_plain(
-    image: &[u16],
-    memory: &mut [u16],
-    input: &[u16],
-    output: &mut [u16],
-    runs: u32,
-    places: &mut [u16; 9],
-) -> u64 {
+fn run_plain(image: &[u16], memory: &mut [u16], input: &[u16], output: &mut [u16], runs: u32) -> u32 {
     let mut machine = plain::Machine::new();
     let mut tape = plain::Tape::new(input, output);
     if machine.load(image, memory).is_err() {
         return 0;
     }
     for _ in 0..runs {
-        if machine.run(1_000_000, memory, &mut tape).is_err() {
+        if machine.run(CYCLES_A_RUN, memory, &mut tape).is_err() {
             break;
         }
     }
-    places[0..8].copy_from_slice(&machine.registers());
-    places[8] = machine.pc();
-    u64::from(machine.count())
+    machine.count()
 }
 
 struct Buffers {
@@ -65,20 +56,11 @@ struct Buffers {
 fn time(job: &Job, buffers: &mut Buffers, runs: Runs) -> (f64, Left) {
     let output = &mut buffers.output[0..job.room];
     output.fill(0);
-    let mut places = [0; 9];
     let start = clock::seconds();
-    let cycles = runs(
-        &job.image,
-        &mut buffers.memory,
-        &job.input,
-        output,
-        job.runs,
-        &mut places,
-    );
+    let cycles = runs(&job.image, &mut buffers.memory, &job.input, output, RUNS);
     let seconds = clock::seconds() - start;
     let left = Left {
         cycles,
-        places,
         memory: sum_of(&buffers.memory),
         output: sum_of(output),
     };
@@ -116,29 +98,25 @@ fn main() {
         Some(text) => text.parse().expect("the rounds, a number"),
         None => 201,
     };
-    let runs = 2;
-    let room = runs as usize * CYCLES_A_RUN as usize / 4;
+    let room = (RUNS * CYCLES_A_RUN) as usize / 4;
     let jobs = [
         Job {
             name: "table",
             image: images::table(),
             input: Vec::new(),
             room: 0,
-            runs,
         },
         Job {
             name: "sort",
             image: images::sort(),
             input: Vec::new(),
             room: 0,
-            runs,
         },
         Job {
             name: "door",
             image: images::door(),
             input: recording(room),
             room,
-            runs,
         },
     ];
     let mut buffers = Buffers {
@@ -146,7 +124,7 @@ fn main() {
         output: vec![0; room],
     };
     println!(
-        "{rounds} rounds of {runs} runs of {CYCLES_A_RUN} cycles, memory of {WORDS} words; millions of cycles a second of processor time"
+        "{rounds} rounds of {RUNS} runs of {CYCLES_A_RUN} cycles, memory of {WORDS} words; millions of cycles a second of processor time"
     );
     println!("              medians of all rounds          fastest rounds");
     println!("image      ours    plain    ratio      ours    plain    ratio");
@@ -155,12 +133,7 @@ fn main() {
         let (_, ours) = time(job, &mut buffers, proved::run);
         let (_, plain) = time(job, &mut buffers, run_plain);
         assert_eq!(ours, plain, "{}: the machines differ", job.name);
-        assert_eq!(
-            ours.cycles,
-            u64::from(runs) * CYCLES_A_RUN,
-            "{}: stopped early",
-            job.name
-        );
+        assert_eq!(ours.cycles, RUNS * CYCLES_A_RUN, "{}: stopped early", job.name);
         let (mut speeds, mut others, mut ratios) = (Vec::new(), Vec::new(), Vec::new());
         for round in 0..rounds {
             let (a, b);
@@ -172,8 +145,8 @@ fn main() {
                 a = time(job, &mut buffers, proved::run);
             }
             assert_eq!((a.1, b.1), (ours, ours), "{}: a round differs", job.name);
-            speeds.push(a.1.cycles as f64 / a.0 / 1e6);
-            others.push(b.1.cycles as f64 / b.0 / 1e6);
+            speeds.push(f64::from(a.1.cycles) / a.0 / 1e6);
+            others.push(f64::from(b.1.cycles) / b.0 / 1e6);
             ratios.push(b.0 / a.0);
         }
         let (best, other) = (highest(&speeds), highest(&others));

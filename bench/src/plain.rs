@@ -82,14 +82,6 @@ impl Machine {
         Self::default()
     }
 
-    pub fn registers(&self) -> [u16; 8] {
-        self.registers
-    }
-
-    pub fn pc(&self) -> u16 {
-        self.pc
-    }
-
     pub fn count(&self) -> u32 {
         self.count
     }

@@ -13,21 +13,11 @@ unsafe extern "C" {
         output: *mut u16,
         output_words: usize,
         runs: u32,
-        places: *mut u16,
-        places_words: usize,
-    ) -> u64;
+    ) -> u32;
 }
 
-/// Loads the image and runs it so many times 1,000,000 cycles; answers the cycles done, and
-/// leaves the registers and the program counter in `places`.
-pub fn run(
-    image: &[u16],
-    memory: &mut [u16],
-    input: &[u16],
-    output: &mut [u16],
-    runs: u32,
-    places: &mut [u16; 9],
-) -> u64 {
+/// Loads the image and runs it over a tape, so many times 1,000,000 cycles; answers the cycles done.
+pub fn run(image: &[u16], memory: &mut [u16], input: &[u16], output: &mut [u16], runs: u32) -> u32 {
     // Each address and length is of a slice that is lent for the call, the changed ones alone.
     unsafe {
         bench_run(
@@ -40,8 +30,6 @@ pub fn run(
             output.as_mut_ptr(),
             output.len(),
             runs,
-            places.as_mut_ptr(),
-            places.len(),
         )
     }
 }

@@ -8,7 +8,7 @@ use lib.ListN.{length, take, drop}
 use Rattle.std.proofs.shelf.Lists.{append-assoc, append-nil, length-append, length-drop, length-push, take-at, drop-at, drop-drop, take-all}
 use Rattle.std.proofs.shelf.Tests.{cases-lt}
 use Rattle.text_port.specs.Lines.{line, hex-lines}
-use Rattle.text_port.specs.Holding.{Held, front, means, unused, over, taking-one, writing}
+use Rattle.text_port.specs.Holding.{Held, front, means, unused, taking-one, writing}
 use Rattle.text_port.specs.Laws.{Move, taken, sent-word, after, sends, Sent, Sends-lines}
 use Rattle.text_port.proofs.Sends.{with-line, when-full, when-room, one-sent}
 

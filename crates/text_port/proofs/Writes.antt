@@ -1,14 +1,14 @@
 -- Lines, the words in them, and one line more.
-use mathlib.Core.Path.{_≡_, refl, sym, ap, _∙_}
+use mathlib.Core.Path.{_≡_, ap}
 use mathlib.Core.List.{List, [], _∷_, _++_}
-use Prim.Native.Nat.{ℕ, zero, suc, _+_, _*_, _/_, _%_, _<_}
+use Prim.Native.Nat.{ℕ, zero, suc, _*_, _/_, _%_, _<_}
 use native.Mathlib.Omega.{arith}
 use lib.ListN.{length}
 use Rattle.std.specs.Reads.{value}
 use Rattle.std.specs.Text.{digitValue, digitChar}
 use Rattle.std.proofs.shelf.Ways.{tells}
 use Rattle.numbers.specs.Hex.{hex4}
-use Rattle.text_port.specs.Lines.{line, hex-lines, words-in}
+use Rattle.text_port.specs.Lines.{line, words-in}
 
 digit-back : (d : ℕ) → d < 16 → digitValue (digitChar d) ≡ d
 digit-back d h = grind (arith, tells)

@@ -2,7 +2,7 @@
 use mathlib.Core.Path.{_≡_}
 use mathlib.Core.Bool.{cond}
 use mathlib.Core.List.{List, [], _∷_}
-use Prim.Native.Nat.{ℕ, suc, _+_, _<_, _≤_}
+use Prim.Native.Nat.{ℕ, _+_, _<_, _≤_}
 use lib.Dec.{leb}
 use lib.ListN.{length, getD}
 use Rattle.std.specs.declared.option.Option.{Option}
@@ -33,17 +33,21 @@ judging at (t ∷ ts) = first-of (reading 16 t) at (judging (at + 1) ts)
 abbrev pub checking : List ℕ → Result Unit Refusal
 checking text = cond (leb (length text) 65536) (judging 1 (tokens text)) (Err Length)
 
--- every token of a list before the one at a place is a number
-abbrev pub Numbers-before : ℕ → List (List ℕ) → Type 0
-Numbers-before place ts = (k : ℕ) → k < place → k < length ts → reading 16 (getD ts k []) ≡ None → ⊥
+-- the first so many tokens are 16-bit numbers
+abbrev pub Numbers : ℕ → List (List ℕ) → Type 0
+Numbers count ts = (k : ℕ) → k < count → reading 16 (getD ts k []) ≡ None → ⊥
 
--- the cause of each answer, and that each cause has its answer; place 0 is the first token's
+-- the token at a place, counted from 0, is the first that is no 16-bit number
+pub record First-bad (ts : List (List ℕ)) (place : ℕ) : Type 0 where
+  pub within : place < length ts
+  pub before : Numbers place ts
+  pub none : reading 16 (getD ts place []) ≡ None
+
+-- each cause gives its answer, and each answer comes from its cause
 pub record Caused (text : List ℕ) (r : Result Unit Refusal) : Type 0 where
   pub long : 65536 < length text → r ≡ Err Length
   pub if-long : r ≡ Err Length → 65536 < length text
-  pub bad : (place : ℕ) → length text ≤ 65536 → place < length (tokens text) → Numbers-before place (tokens text)
-      → reading 16 (getD (tokens text) place []) ≡ None → r ≡ Err (Token (place + 1))
-  pub if-bad : (at : ℕ) → r ≡ Err (Token at)
-      → (length text ≤ 65536) × ((place : ℕ) × (at ≡ place + 1) × (place < length (tokens text)) × Numbers-before place (tokens text) × (reading 16 (getD (tokens text) place []) ≡ None))
-  pub good : length text ≤ 65536 → Numbers-before (length (tokens text)) (tokens text) → r ≡ Ok tt
-  pub if-good : r ≡ Ok tt → (length text ≤ 65536) × Numbers-before (length (tokens text)) (tokens text)
+  pub bad : (place : ℕ) → length text ≤ 65536 → First-bad (tokens text) place → r ≡ Err (Token (place + 1))
+  pub if-bad : (at : ℕ) → r ≡ Err (Token at) → (length text ≤ 65536) × ((place : ℕ) × (at ≡ place + 1) × First-bad (tokens text) place)
+  pub good : length text ≤ 65536 → Numbers (length (tokens text)) (tokens text) → r ≡ Ok tt
+  pub if-good : r ≡ Ok tt → (length text ≤ 65536) × Numbers (length (tokens text)) (tokens text)

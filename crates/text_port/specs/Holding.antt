@@ -38,11 +38,12 @@ abbrev pub means : Held → Meaning
 means h =
     record { waiting = words-of (h .left); sent = words-in (front h); free = (length (h .output) - 5 * h .lines) / 5 }
 
--- all the tokens of an accepted text, and none of a refused one
+-- all the tokens where the check's answer accepts, and none where it refuses
 abbrev pub kept-if : Result Unit Refusal → List (List ℕ) → List (List ℕ)
 kept-if (Ok done) ts = ts
 kept-if (Err refusal) ts = []
 
+-- all the tokens of an accepted text, and none of a refused one
 abbrev pub accepted : List ℕ → List (List ℕ)
 accepted text = kept-if (checking text) (tokens text)
 

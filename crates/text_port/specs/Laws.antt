@@ -26,6 +26,7 @@ pub data Move : Type 0 where
   taken : Move
   sent-word : (word : ℕ) → word < 65536 → Move
 
+-- what is held after one move
 abbrev pub moved : Held → Move → Held
 moved h taken = taking-one h
 moved h (sent-word word fits) = writing h word

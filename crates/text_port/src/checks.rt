@@ -1,6 +1,6 @@
 // The check of a text, and why it is refused.
 ghost use mathlib.Core.Path.{_≡_};
-ghost use Prim.Native.Nat.{ℕ, _≤_};
+ghost use Prim.Native.Nat.{_≤_};
 ghost use lib.ListN.{length};
 ghost use Rattle.text_port.specs.Tokens.{tokens};
 ghost use Rattle.text_port.specs.Checking.{number-of, judging, checking, Caused};
@@ -35,7 +35,7 @@ fn check_tokens(text: &[u8]) -> Result<(), Refusal>
     ensures { λ r. ⌜ r ≡ judging 1 (tokens (now (text .entry))) ⌝ }
 {
     let mut cursor = Cursor { rest: text };
-    let mut at = 1;
+    let mut at: usize = 1;
     while let Some(token) = cursor.next_token() {
         let Some(_) = read_number(token, Width::Sixteen) else {
             return Err(Refusal::Token(at));

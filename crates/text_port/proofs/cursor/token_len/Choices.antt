@@ -1,4 +1,3 @@
-use mathlib.Core.Bool.{not}
 use Rattle.text_port.specs.Tokens.{gap}
 use Rattle.text_port.proofs.Scans.{Sofar}
 use Rattle.text_port.proofs.cursor.token_len.Given as given

@@ -5,12 +5,13 @@ use mathlib.Core.Bool.{Bool}
 use Rattle.port.specs.Meaning.{Meaning}
 use Rattle.cpu.specs.declared.Cpu.{Cpu}
 
--- a processor by itself
+-- what a processor holds by itself
 pub record Held : Type 0 where
   pub registers : List ℕ
   pub place : ℕ
   pub halted : Bool
 
+-- a processor's registers, place and halt
 abbrev pub held : Cpu → Held
 held c = record { registers = c .registers .words; place = c .pc; halted = c .halted }
 

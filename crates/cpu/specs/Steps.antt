@@ -41,13 +41,15 @@ moved s rs place = record { registers = rs; place = place; halted = s .halted; m
 abbrev pub put : State → Register → ℕ → State
 put s r w = moved s (written (s .registers) r w) (behind (s .place))
 
--- the state with another memory or port meaning
+-- the state with another memory
 abbrev pub with-memory : State → List ℕ → State
 with-memory s ws = record { registers = s .registers; place = s .place; halted = s .halted; memory = ws; port = s .port }
 
+-- the state with another port meaning
 abbrev pub with-port : State → Meaning → State
 with-port s m = record { registers = s .registers; place = s .place; halted = s .halted; memory = s .memory; port = m }
 
+-- the state of a machine that has halted
 abbrev pub halting : State → State
 halting s = record { registers = s .registers; place = s .place; halted = true; memory = s .memory; port = s .port }
 

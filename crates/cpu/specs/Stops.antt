@@ -3,6 +3,7 @@ use Prim.Native.Nat.{ℕ}
 use Rattle.cpu.specs.declared.Stop.{Stop}
 use Rattle.cpu.specs.declared.Stop.the-variants.{Spent, Halted, Dry, Full, Outside, Unassigned}
 
+-- each stop's number
 abbrev pub stop-number : Stop → ℕ
 stop-number Spent = 0
 stop-number Halted = 30

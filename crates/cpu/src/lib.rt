@@ -18,13 +18,19 @@ use words::RegisterFile;
 use words::shift;
 
 /// Why a run ended.
-#[derive(Clone, Copy, PartialEq, Eq, Debug)]
+#[derive(Clone, Copy, PartialEq, Eq)]
 pub enum Stop {
+    /// The budget is done.
     Spent,
+    /// The halting word has been done.
     Halted,
+    /// No word waits at the port.
     Dry,
+    /// The port has no free place.
     Full,
+    /// The program counter or an address lies outside the memory.
     Outside,
+    /// The word stands for no instruction.
     Unassigned,
 }
 

@@ -34,6 +34,7 @@ fresh size memory port = record {
   count = 0;
 }
 
+-- before a first load
 abbrev pub unloaded : List ℕ → Meaning → Standing
 unloaded memory port = fresh 0 memory port
 
@@ -42,6 +43,7 @@ pub record Served (A : Type 0) : Type 0 where
   pub answer : Result A Refusal
   pub after : Standing
 
+-- a refusal, which alters nothing
 abbrev pub refusing : {A : Type 0} → Refusal → Standing → Served A
 refusing refusal s = record { answer = Err refusal; after = s }
 
@@ -53,12 +55,13 @@ unfit n = ltb n 64 || ltb 65536 n
 abbrev pub sized : ℕ → ℕ → Result Unit Refusal
 sized size n = cond (unfit n || not (eqb n size)) (Err Memory) (Ok tt)
 
--- the memory becomes the image and zeros behind it
+-- an accepted load: the memory becomes the image and zeros behind it, and the port stays as it is
 abbrev pub accepted : List ℕ → Standing → Served Unit
 accepted image s =
     let n : ℕ = length (s .state .memory) in
     record { answer = Ok tt; after = fresh n (padded image n) (s .state .port) }
 
+-- a load, refused for the memory, then for the image
 abbrev pub loading : List ℕ → Standing → Served Unit
 loading image s =
     cond (unfit (length (s .state .memory))) (refusing Memory s)
@@ -71,6 +74,7 @@ counted s r = record {
   after = record { state = r .after; size = s .size; count = s .count + r .cycles };
 }
 
+-- a run, refused for the memory, then for the budget, then for the count
 abbrev pub running : ℕ → Standing → Served Report
 running budget s = elim (sized (s .size) (length (s .state .memory))) [
   | Err refusal ↦ refusing refusal s
@@ -86,6 +90,7 @@ pub record Sight : Type 0 where
   pub place : ℕ
   pub count : ℕ
 
+-- a look, refused for the memory
 abbrev pub looking : Standing → Result Sight Refusal
 looking s = elim (sized (s .size) (length (s .state .memory))) [
   | Err refusal ↦ Err refusal
@@ -97,6 +102,7 @@ abbrev pub shown : Result Look Refusal → Result Sight Refusal
 shown (Ok l) = Ok (record { registers = l .registers .words; place = l .pc; count = l .count })
 shown (Err refusal) = Err refusal
 
+-- a peek, refused for the memory, then for the address
 abbrev pub peeking : ℕ → Standing → Result ℕ Refusal
 peeking at s = elim (sized (s .size) (length (s .state .memory))) [
   | Err refusal ↦ Err refusal

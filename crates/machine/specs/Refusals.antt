@@ -3,6 +3,7 @@ use Prim.Native.Nat.{ℕ}
 use Rattle.machine.specs.declared.Refusal.{Refusal}
 use Rattle.machine.specs.declared.Refusal.the-variants.{Memory, Image, Budget, Count, Address}
 
+-- each refusal's number
 abbrev pub refusal-number : Refusal → ℕ
 refusal-number Memory = 4
 refusal-number Image = 5

@@ -16,6 +16,7 @@ pub record Ran : Type 0 where
   pub cycles : ℕ
   pub after : State
 
+-- a run that does no word
 abbrev pub ended : Stop → State → Ran
 ended stop s = record { stop = stop; cycles = 0; after = s }
 

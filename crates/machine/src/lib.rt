@@ -13,14 +13,13 @@ ghost use Rattle.machine.specs.Runs.{run-of, ran-as};
 ghost use Rattle.machine.specs.Calls.{stands, unloaded, sized, loading, running, looking, shown, peeking};
 use cpu::Cpu;
 use cpu::Stop;
-use cpu::StopDebug;
 use cpu::StopEq;
 use cpu::StopPartialEq;
 use port::Port;
 use words::RegisterFile;
 
 /// Why a call was refused. Each refusal leaves machine, memory and port as they were.
-#[derive(Clone, Copy, PartialEq, Eq, Debug)]
+#[derive(Clone, Copy, PartialEq, Eq)]
 pub enum Refusal {
     /// The memory has fewer than 64 or more than 65,536 words, or not as many as were loaded.
     Memory,
@@ -35,7 +34,7 @@ pub enum Refusal {
 }
 
 /// How a run ended, and the cycles done.
-#[derive(Clone, Copy, PartialEq, Eq, Debug)]
+#[derive(Clone, Copy, PartialEq, Eq)]
 pub struct Report {
     pub stop: Stop,
     pub cycles: u32,

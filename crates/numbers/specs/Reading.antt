@@ -10,6 +10,7 @@ use Rattle.std.specs.declared.option.Option.the-variants.{Some, None}
 use Rattle.numbers.specs.declared.Width.{Width}
 use Rattle.numbers.specs.declared.Width.the-variants.{Six, Eight, Sixteen}
 
+-- the bits of each width
 abbrev pub bits-of : Width → ℕ
 bits-of Six = 6
 bits-of Eight = 8
@@ -46,6 +47,7 @@ after-sign bits text =
     cond (eqb (getD text 0 0) 45) (negative bits (drop 1 text))
     (cond (eqb (getD text 0 0) 43) (positive bits (drop 1 text)) (positive bits text))
 
+-- the text's first two characters
 abbrev pub begins : ℕ → ℕ → List ℕ → Bool
 begins a b text = eqb (getD text 0 0) a && eqb (getD text 1 0) b
 

@@ -15,11 +15,11 @@ pub use tapes::Tape;
 pub use tapes::TapePort;
 
 /// No word waits.
-#[derive(Clone, Copy, PartialEq, Eq, Debug)]
+#[derive(Clone, Copy)]
 pub struct Dry;
 
 /// No place is free.
-#[derive(Clone, Copy, PartialEq, Eq, Debug)]
+#[derive(Clone, Copy)]
 pub struct Full;
 
 /// Where words come from and go to.

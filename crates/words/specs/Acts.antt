@@ -23,6 +23,7 @@ pub data Act : Type 0 where
 abbrev pub behind : ℕ → ℕ
 behind place = wrapped (place + 1)
 
+-- each instruction's act
 abbrev pub act : Instruction → ℕ → List ℕ → Act
 act (Compute f o) place rs = go (written rs (o .rd) (computed f (reading rs (o .rs1)) (reading rs (o .rs2)))) (behind place)
 act (Not o) place rs = go (written rs (o .rd) (65535 - reading rs (o .rs1))) (behind place)

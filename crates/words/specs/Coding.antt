@@ -45,7 +45,7 @@ of-imm6 code o = code * 4096 + number-of (o .rd) * 512 + number-of (o .rs1) * 64
 abbrev pub of-imm8 : ℕ → RegisterImm8 → ℕ
 of-imm8 code o = code * 4096 + number-of (o .rd) * 512 + o .imm .bits
 
--- unused fields are written as zero
+-- the word of each instruction; unused fields are written as zero
 abbrev pub encoded : Instruction → ℕ
 encoded (Compute f o) = of-registers 0 (o .rd) (o .rs1) (o .rs2) (function-code f)
 encoded (Not o) = of-registers 0 (o .rd) (o .rs1) R0 4
@@ -108,6 +108,7 @@ by-opcode code w =
     (cond (eqb code 14) (Some (Branch Less (with-imm8 w)))
     (Some (Branch LessEqual (with-imm8 w)))))))))))))))))
 
+-- the instruction that a word stands for, if it is assigned
 abbrev pub decoded : ℕ → Option Instruction
 decoded w = by-opcode (w / 4096) w
 

@@ -6,10 +6,11 @@ use lib.Dec.{ltb}
 use Rattle.words.specs.declared.immediates.Imm6.{Imm6}
 use Rattle.words.specs.declared.immediates.Imm8.{Imm8}
 
--- the immediates in the low six and the low eight bits
+-- the immediate in the low six bits
 abbrev pub imm6-of : ℕ → Imm6
 imm6-of n = record { bits = n % 64; six = omega arith }
 
+-- the immediate in the low eight bits
 abbrev pub imm8-of : ℕ → Imm8
 imm8-of n = record { bits = n % 256; eight = omega arith }
 
@@ -17,6 +18,7 @@ imm8-of n = record { bits = n % 256; eight = omega arith }
 abbrev pub extended : ℕ → ℕ → ℕ
 extended half bits = cond (ltb bits half) bits (bits + (65536 - 2 * half))
 
+-- the words of the signed values of immediates
 abbrev pub extended6 : Imm6 → ℕ
 extended6 i = extended 32 (i .bits)
 

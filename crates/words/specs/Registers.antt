@@ -7,6 +7,7 @@ use lib.ListN.{getD, set, replicate}
 use Rattle.words.specs.declared.registers.Register.{Register}
 use Rattle.words.specs.declared.registers.Register.the-variants.{R0, R1, R2, R3, R4, R5, R6, R7}
 
+-- a register's number
 abbrev pub number-of : Register → ℕ
 number-of R0 = 0
 number-of R1 = 1

@@ -12,6 +12,7 @@ use Rattle.words.specs.declared.instructions.Test.the-variants.{Equal, NotEqua
 abbrev pub wrapped : ℕ → ℕ
 wrapped n = n % 65536
 
+-- what a function makes of two words
 abbrev pub computed : Function → ℕ → ℕ → ℕ
 computed Add a b = wrapped (a + b)
 computed Sub a b = wrapped (a + (65536 - b))
@@ -22,6 +23,7 @@ computed Or a b = bitOr a b
 abbrev pub negative : ℕ → Bool
 negative w = leb 32768 w
 
+-- a test of a word's signed value against 0
 abbrev pub passes : Test → ℕ → Bool
 passes Equal w = eqb w 0
 passes NotEqual w = not (eqb w 0)

@@ -179,7 +179,7 @@ impl Cpu {
                 Ok(instruction.cost())
             }
             Instruction::Lui(o) => {
-                let word = o.imm.bits() * 256 + self.registers.get(o.rd) % 256;
+                let word = u16::from(o.imm.bits) * 256 + self.registers.get(o.rd) % 256;
                 self.put(o.rd, word);
                 Ok(instruction.cost())
             }

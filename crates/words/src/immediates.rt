@@ -3,12 +3,12 @@ ghost use Prim.Native.Nat.{_<_};
 
 #[derive(Clone, Copy)]
 pub struct Imm6 {
-    pub(crate) bits: u8,
+    pub bits: u8,
     ghost six: { bits < 64 },
 }
 
 #[derive(Clone, Copy)]
 pub struct Imm8 {
-    pub(crate) bits: u8,
+    pub bits: u8,
     ghost eight: { bits < 256 },
 }

@@ -136,7 +136,7 @@ impl Test {
 pub fn shift(word: u16, by: Imm6) -> u16
     ensures { λ r. ⌜ r ≡ shifted word (by .bits) ⌝ }
 {
-    let places = by.bits();
+    let places = u16::from(by.bits);
     let wide = u64::from(word);
     if places < 32 {
         ((wide << places) % 65536) as u16
@@ -230,14 +230,14 @@ fn pack_imm6(code: u16, o: RegistersImm6) -> u16
     requires { ⌜ code < 16 ⌝ }
     ensures { λ r. ⌜ r ≡ of-imm6 code o ⌝ }
 {
-    code * 4096 + o.rd.number() * 512 + o.rs1.number() * 64 + o.imm.bits()
+    code * 4096 + o.rd.number() * 512 + o.rs1.number() * 64 + u16::from(o.imm.bits)
 }
 
 fn pack_imm8(code: u16, o: RegisterImm8) -> u16
     requires { ⌜ code < 16 ⌝ }
     ensures { λ r. ⌜ r ≡ of-imm8 code o ⌝ }
 {
-    code * 4096 + o.rd.number() * 512 + o.imm.bits()
+    code * 4096 + o.rd.number() * 512 + u16::from(o.imm.bits)
 }
 
 fn pack(instruction: Instruction) -> u16

@@ -28,14 +28,6 @@ impl Imm6 {
         }
     }
 
-    /// The bit pattern, below 64.
-    pub fn bits(self) -> u16
-        ensures value { λ r. ⌜ r ≡ self .bits ⌝ }
-        ensures bound { λ r. ⌜ r < 64 ⌝ }
-    {
-        self.bits as u16
-    }
-
     /// The signed value, -32 to 31, as a word.
     pub fn word(self) -> u16
         ensures { λ r. ⌜ r ≡ extended6 self ⌝ }
@@ -52,14 +44,6 @@ impl Imm8 {
         Imm8 {
             bits: (bits % 256) as u8,
         }
-    }
-
-    /// The bit pattern, below 256.
-    pub fn bits(self) -> u16
-        ensures value { λ r. ⌜ r ≡ self .bits ⌝ }
-        ensures bound { λ r. ⌜ r < 256 ⌝ }
-    {
-        u16::from(self.bits)
     }
 
     /// The signed value, -128 to 127, as a word.

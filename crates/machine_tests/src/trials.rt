@@ -56,7 +56,7 @@ fn find(machine: &Machine, memory: &[u16], from: usize, words: &[u16]) -> usize 
 }
 
 /// Loads, runs twice, and looks around.
-pub fn attempt(trial: &Trial, memory: &mut [u16]) -> Result<Seen, Refusal> {
+pub(crate) fn attempt(trial: &Trial, memory: &mut [u16]) -> Result<Seen, Refusal> {
     let mut sent = [0; 5];
     let room = trial.room.min(5);
     let mut tape = Tape::new(trial.input, &mut sent[0..room]);

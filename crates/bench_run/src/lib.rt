@@ -1,4 +1,6 @@
 // The machine's runs for a program that is not Rattle, which measures their speed.
+#![tactic(auto)]
+
 ghost use Rattle.std.specs.Prelude.{◌≡◌, ℕ};
 ghost use Rattle.port.specs.Kinds.{seen};
 ghost use Rattle.machine.specs.Calls.{stands, looking};

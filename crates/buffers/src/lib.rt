@@ -1,4 +1,6 @@
 // Lent buffers: a text written at a place of one, if it fits there.
+#![tactic(auto)]
+
 ghost use Rattle.std.specs.Prelude.{◌≡◌};
 ghost use Rattle.buffers.specs.Buffers.{appending};
 

@@ -1,4 +1,6 @@
 // The processor: registers, program counter and whether it has halted; one word done at a time.
+#![tactic(auto)]
+
 ghost use Rattle.std.specs.Prelude.{◌≡◌, ℕ, false};
 ghost use Rattle.words.specs.Registers.{written, zeros};
 ghost use Rattle.words.specs.Acts.{behind};

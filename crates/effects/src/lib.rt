@@ -1,4 +1,6 @@
 // What each operation does, as theorems over whole numbers.
+#![tactic(auto)]
+
 ghost use Rattle.effects.specs.Effects.{SignedEffects};
 ghost use Rattle.effects.specs.Whole.{RepresentedOnce, SignedWord};
 

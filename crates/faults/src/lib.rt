@@ -1,4 +1,6 @@
 // The faults of a source, in three layers: an operand's or a label's inside a statement's, and that inside the assembly's.
+#![tactic(auto)]
+
 ghost use Rattle.std.specs.Prelude.{◌≡◌};
 ghost use Rattle.faults.specs.Faults.{told, of_statement, on_line};
 ghost use Rattle.faults.specs.declared.StatementFault.TheVariants.{InOperand, InLabel};

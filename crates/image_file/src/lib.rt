@@ -1,4 +1,6 @@
 // The file form of an image: a mark, a version and the words, each high byte first.
+#![tactic(auto)]
+
 ghost use Rattle.std.specs.Prelude.{◌≡◌, ◌*◌, length, take, IfOk};
 ghost use Rattle.image_file.specs.Bytes.{bytes_of, words_of};
 ghost use Rattle.image_file.specs.Calls.{writing, reading};

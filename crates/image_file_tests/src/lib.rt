@@ -1,4 +1,6 @@
 // Image files written and read: each expected value is worked out by hand from the file's form.
+#![tactic(auto)]
+
 #[cfg(test)]
 mod tests {
     use image_file::{Refusal, read_image, write_image};

@@ -1,4 +1,6 @@
 // Laws of the machine, as theorems over the definitions that its calls are proved against.
+#![tactic(auto)]
+
 ghost use Rattle.laws.specs.Laws.{BudgetInParts, WithinBudget, StopsAlterNothing, RegisterZero, LoadedMemory};
 ghost use Rattle.laws.specs.Rows.{Rows, CountDown};
 

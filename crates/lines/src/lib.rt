@@ -1,4 +1,6 @@
 // The lines of a source, which bytes may stand in a line, and the parts of a line.
+#![tactic(auto)]
+
 ghost use Rattle.std.specs.Prelude.{◌≡◌, ◌≤◌, not, length, nat_eq};
 ghost use Rattle.pieces.specs.Pieces.{run_len, until};
 ghost use Rattle.pieces.specs.Cursors.{Cut};

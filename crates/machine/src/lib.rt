@@ -1,4 +1,6 @@
 // The machine: load, run, look and peek, with the memory and the port beside it.
+#![tactic(auto)]
+
 ghost use Rattle.std.specs.Prelude.{◌≡◌, ℕ, ◌≤◌, List, length, OnErr};
 ghost use Rattle.buffers.specs.Buffers.{padded};
 ghost use Rattle.port.specs.Meaning.{Meaning};

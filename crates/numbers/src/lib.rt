@@ -1,4 +1,6 @@
 // Numbers as text: read at a width of 6, 8 or 16 bits, and a word written as four hexadecimal digits.
+#![tactic(auto)]
+
 ghost use Rattle.std.specs.Prelude.{◌≡◌, ℕ, ◌+◌, ◌-◌, ◌*◌, ◌^◌, ◌<◌, ◌≤◌, min};
 ghost use Rattle.std.specs.Option.{option_map};
 ghost use Rattle.numbers.specs.Texts.{ReadsTexts, HasTexts};

@@ -1,4 +1,6 @@
 // Tests of numbers: texts and the words that they are, worked out by hand.
+#![tactic(auto)]
+
 #[cfg(test)]
 mod tests {
     use numbers::{Width, read_number};

@@ -1,4 +1,6 @@
 // The fields of a statement: registers, numbers, labels' names, and the text of a string.
+#![tactic(auto)]
+
 mod cursors;
 mod fields;
 

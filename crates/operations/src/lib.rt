@@ -1,4 +1,6 @@
 // The operations of a source: their names, their fields, and the words that each places.
+#![tactic(auto)]
+
 mod fields;
 mod kinds;
 mod mnemonics;

@@ -1,4 +1,6 @@
 // White space, and what stands between gaps.
+#![tactic(auto)]
+
 ghost use Rattle.std.specs.Prelude.{◌≡◌};
 ghost use Rattle.pieces.specs.Pieces.{white};
 

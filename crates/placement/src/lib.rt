@@ -1,4 +1,6 @@
 // The words that a statement places.
+#![tactic(auto)]
+
 ghost use Rattle.placement.specs.Laws.{PlacementLaws};
 
 mod expansion;

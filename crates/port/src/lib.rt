@@ -1,4 +1,6 @@
 // A port, known to the machine only by its meaning: the words waiting, the words sent and the free places.
+#![tactic(auto)]
+
 ghost use Rattle.std.specs.Prelude.{◌≡◌, ℕ, List, length};
 ghost use Rattle.port.specs.Meaning.{meaning, taking, sending};
 

@@ -1,4 +1,6 @@
 // Ports at work: each expected value is worked out by hand from what a port is.
+#![tactic(auto)]
+
 #[cfg(test)]
 mod tests {
     use port::{Polarity, Port, Tape};

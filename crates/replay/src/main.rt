@@ -1,4 +1,6 @@
 // Replays switch words, recorded as text, through the image of a door program, and counts down over a tape.
+#![tactic(auto)]
+
 use image_file::{read_image, write_image};
 use machine::{Machine, Report};
 use port::{Polarity, Port, Tape};

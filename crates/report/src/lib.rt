@@ -1,4 +1,6 @@
 // The text that programs print, formed into lent buffers.
+#![tactic(auto)]
+
 ghost use Rattle.std.specs.Prelude.{◌≡◌, ℕ, length, decimal};
 ghost use Rattle.report.specs.Adding.{Added};
 ghost use Rattle.report.specs.Lines.{short_number, number_of, token_of, place_of, refusal_line, printing};

@@ -1,4 +1,6 @@
 // Tests of the printed lines.
+#![tactic(auto)]
+
 #[cfg(test)]
 mod tests {
     use report::{Refusal, write_refusal};

@@ -1,4 +1,6 @@
 // The statements of a source.
+#![tactic(auto)]
+
 ghost use Rattle.source.specs.Laws.{LineReading, SourceReading};
 
 mod reading;

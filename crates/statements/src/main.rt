@@ -1,2 +1,4 @@
 // Later.
+#![tactic(auto)]
+
 fn main() {}

@@ -1,4 +1,6 @@
 // A port over text: words read from numbers in a text, and words sent written as lines of hexadecimal digits.
+#![tactic(auto)]
+
 ghost use Rattle.text_port.specs.Laws.{TokenLaws, SendsLines};
 
 mod checks;

@@ -1,4 +1,6 @@
 // The text port at work: each expected value is worked out by hand from the form of a text.
+#![tactic(auto)]
+
 #[cfg(test)]
 mod tests {
     use port::{Polarity, Port};

@@ -1,4 +1,6 @@
 // The words of the poll core: registers, immediates, and the instructions that words stand for.
+#![tactic(auto)]
+
 mod file;
 mod immediates;
 mod instructions;

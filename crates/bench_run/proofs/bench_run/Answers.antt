@@ -9,9 +9,9 @@ pub returns-in-Ok : goal.returns-in-Ok
 returns-in-Ok c =
     let m = means (held c.new-tape.result) in
     let s = loaded c.args.image.now c.args.memory.now c.args.input.now c.args.output.now m _ _ c.new-tape.ensures.starts (c.new-machine.ensures c.args.memory.now m) (c.load.ensures.after m) in
-    let t = c.run-on.ensures ∙ ap (runs_from c.args.runs) s in
+    let t = c.run_on.ensures ∙ ap (runs_from c.args.runs) s in
     record {
-      answer = ap count_of (ap shown (sym c.in-Ok.is) ∙ c.look.ensures (means (held c.run-on.new.port)) ∙ ap looking t);
+      answer = ap count_of (ap shown (sym c.in-Ok.is) ∙ c.look.ensures (means (held c.run_on.new.port)) ∙ ap looking t);
       memory = ap (λ (x : Standing). x.state.memory) t;
     }
 
@@ -19,8 +19,8 @@ pub returns-in-Err : goal.returns-in-Err
 returns-in-Err c =
     let m = means (held c.new-tape.result) in
     let s = loaded c.args.image.now c.args.memory.now c.args.input.now c.args.output.now m _ _ c.new-tape.ensures.starts (c.new-machine.ensures c.args.memory.now m) (c.load.ensures.after m) in
-    let t = c.run-on.ensures ∙ ap (runs_from c.args.runs) s in
+    let t = c.run_on.ensures ∙ ap (runs_from c.args.runs) s in
     record {
-      answer = ap count_of (ap shown (sym c.in-Err.is) ∙ c.look.ensures (means (held c.run-on.new.port)) ∙ ap looking t);
+      answer = ap count_of (ap shown (sym c.in-Err.is) ∙ c.look.ensures (means (held c.run_on.new.port)) ∙ ap looking t);
       memory = ap (λ (x : Standing). x.state.memory) t;
     }

@@ -12,5 +12,5 @@ returns c =
     let fits = appending_fits text at out room in
     record {
       answer = ap (λ (a : Appended). a.answer) (sym fits);
-      after = overlaid_from_copy at _ out _ text c.copy-from-slice.ensures.after (omega arith) ∙ ap (λ (a : Appended). a.after) (sym fits);
+      after = overlaid_from_copy at _ out _ text c.copy_from_slice.ensures.after (omega arith) ∙ ap (λ (a : Appended). a.after) (sym fits);
     }

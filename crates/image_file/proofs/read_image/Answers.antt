@@ -19,7 +19,7 @@ returns-then-count-image c =
     let rest = drop 5 bytes in
     let n = length c.args.image.now in
     let zeros : c.fill.new.self ≡ blank n = c.fill.ensures.after (λ y e. search rules) in
-    let headed : bytes ≡ head ++ rest = (starts_is Decides-eqb bytes head _ c.starts-with.ensures.value).0 c.if-not-starts-with.false in
+    let headed : bytes ≡ head ++ rest = (starts_is Decides-eqb bytes head _ c.starts_with.ensures.value).0 c.if-not-starts_with.false in
     let half = ap (λ words. length words / 2) (take_rest bytes 5) in
     let shown = refused_reading bytes rest n _ headed c.if-bytes-eq0.false half _ (elim c.then-count-image.either [ inl over ↦ inl (omega arith) | inr over ↦ inr over.1 ]) zeros in
     record { answer = shown.0; after = shown.1; written_by = shown.2 }
@@ -30,13 +30,13 @@ returns c =
     let rest = drop 5 bytes in
     let n = length c.args.image.now in
     let zeros : c.fill.new.self ≡ blank n = c.fill.ensures.after (λ y e. search rules) in
-    let headed : bytes ≡ head ++ rest = (starts_is Decides-eqb bytes head _ c.starts-with.ensures.value).0 c.if-not-starts-with.false in
+    let headed : bytes ≡ head ++ rest = (starts_is Decides-eqb bytes head _ c.starts_with.ensures.value).0 c.if-not-starts_with.false in
     let count = length (take (length bytes - 5) rest) / 2 in
     let half : count ≡ length rest / 2 = ap (λ words. length words / 2) (take_rest bytes 5) in
-    let small : All (λ b. b < 256) bytes = All-from_get_or (λ b. b < 256) bytes 0 (λ i h. (c.type-inv.bytes i).fits) in
-    let filled : put_mid 0 (count - 0) c.fill.new.self c.read-words.new.words ≡ padded (words_of rest) n =
-    ap (λ buffer. put_mid 0 (count - 0) buffer c.read-words.new.words) zeros
-    ∙ overlaid_from_copy 0 (count - 0) (blank n) _ (words_of rest) (c.read-words.ensures ∙ ap words_of (take_rest bytes 5)) (omega (arith, half, length_words_of rest))
+    let small : All (λ b. b < 256) bytes = All-from_get_or (λ b. b < 256) bytes 0 (λ i h. (c.type_inv.bytes i).fits) in
+    let filled : put_mid 0 (count - 0) c.fill.new.self c.read_words.new.words ≡ padded (words_of rest) n =
+    ap (λ buffer. put_mid 0 (count - 0) buffer c.read_words.new.words) zeros
+    ∙ overlaid_from_copy 0 (count - 0) (blank n) _ (words_of rest) (c.read_words.ensures ∙ ap words_of (take_rest bytes 5)) (omega (arith, half, length_words_of rest))
     ∙ overlaid_blank (words_of rest) n in
-    let shown = accepted_reading bytes rest n count headed c.if-bytes-eq0.false half _ (All-drop (λ b. b < 256) 5 bytes small) (omega arith) c.if-count-gt-MOST-WORDS.false filled in
+    let shown = accepted_reading bytes rest n count headed c.if-bytes-eq0.false half _ (All-drop (λ b. b < 256) 5 bytes small) (omega arith) c.if-count-gt-MOST_WORDS.false filled in
     record { answer = shown.0; after = shown.1; written_by = shown.2 }

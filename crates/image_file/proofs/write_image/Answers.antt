@@ -17,13 +17,13 @@ returns c =
     let n = length c.args.out.now in
     let end = 5 + 2 * length image in
     let zeros : c.fill.new.self ≡ blank n = c.fill.ensures.after (λ y e. search rules) in
-    let headed : put_mid 0 5 c.fill.new.self c.copy-from-slice.new.self ≡ padded head n =
-    ap (λ buffer. put_mid 0 5 buffer c.copy-from-slice.new.self) zeros
-    ∙ overlaid_from_copy 0 5 (blank n) _ head c.copy-from-slice.ensures.after (omega arith)
+    let headed : put_mid 0 5 c.fill.new.self c.copy_from_slice.new.self ≡ padded head n =
+    ap (λ buffer. put_mid 0 5 buffer c.copy_from_slice.new.self) zeros
+    ∙ overlaid_from_copy 0 5 (blank n) _ head c.copy_from_slice.ensures.after (omega arith)
     ∙ overlaid_blank head n in
-    let filled : put_mid 5 (end - 5) (put_mid 0 5 c.fill.new.self c.copy-from-slice.new.self) c.write-words.new.bytes ≡ padded (file_of image) n =
-    ap (λ buffer. put_mid 5 (end - 5) buffer c.write-words.new.bytes) headed
-    ∙ overlaid_from_copy 5 (end - 5) (padded head n) _ (bytes_of image) c.write-words.ensures (omega (arith, length_bytes_of image))
+    let filled : put_mid 5 (end - 5) (put_mid 0 5 c.fill.new.self c.copy_from_slice.new.self) c.write_words.new.bytes ≡ padded (file_of image) n =
+    ap (λ buffer. put_mid 5 (end - 5) buffer c.write_words.new.bytes) headed
+    ∙ overlaid_from_copy 5 (end - 5) (padded head n) _ (bytes_of image) c.write_words.ensures (omega (arith, length_bytes_of image))
     ∙ overlaid_padded head (bytes_of image) n in
-    let shown = accepted_writing image n end _ c.if-image-gt-MOST-WORDS.false (omega arith) (omega arith) filled in
+    let shown = accepted_writing image n end _ c.if-image-gt-MOST_WORDS.false (omega arith) (omega arith) filled in
     record { answer = shown.0; after = shown.1; reads_back = shown.2 }

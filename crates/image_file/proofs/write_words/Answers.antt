@@ -5,11 +5,11 @@ use Rattle.image_file.proofs.write_words.Goals as goal
 pub loop-i-preserved : goal.loop-i-preserved
 loop-i-preserved c =
     let word = get_or c.args.words.now c.loop-i.i 0 in
-    let small : word < 65536 = (c.type-inv.words c.loop-i.i).fits in
+    let small : word < 65536 = (c.type_inv.words c.loop-i.i).fits in
     let above : word / 256 % 256 ≡ word / 256 = omega arith in
     written_more c.args.words.now c.loop-i.bytes c.loop-i.i _ _ (omega arith) (omega arith)
-    (ap (λ bytes. get_or bytes 0 0) c.to-be-bytes.ensures ∙ above)
-    (ap (λ bytes. get_or bytes 1 0) c.to-be-bytes.ensures)
+    (ap (λ bytes. get_or bytes 0 0) c.to_be_bytes.ensures ∙ above)
+    (ap (λ bytes. get_or bytes 1 0) c.to_be_bytes.ensures)
     c.loop-i.invariant
 
 pub returns : goal.returns

@@ -4,14 +4,14 @@ use Rattle.lines.specs.Places.{after, gap}
 use Rattle.lines.specs.declared.Place.TheVariants.{Outside}
 use Rattle.lines.proofs.gap_len.Goals as goal
 
-pub returns-then-not-is-gap : goal.returns-then-not-is-gap
-returns-then-not-is-gap c =
-    record { is = here after (λ p b. not (gap p b)) Outside c.loop-i.place c.args.text.now c.loop-i.i (omega arith) c.loop-i.invariant (ap not (sym c.if-not-is-gap.ensures)); within = omega arith }
+pub returns-then-not-is_gap : goal.returns-then-not-is_gap
+returns-then-not-is_gap c =
+    record { is = here after (λ p b. not (gap p b)) Outside c.loop-i.place c.args.text.now c.loop-i.i (omega arith) c.loop-i.invariant (ap not (sym c.if-not-is_gap.ensures)); within = omega arith }
 
 pub loop-i-preserved : goal.loop-i-preserved
 loop-i-preserved c =
     subst (λ p. Sofar after (λ p b. not (gap p b)) Outside p c.args.text.now (c.loop-i.i + 1)) (sym c.next-place.ensures)
-    (more after (λ p b. not (gap p b)) Outside c.loop-i.place c.args.text.now c.loop-i.i (omega arith) c.loop-i.invariant (ap not (sym c.if-not-is-gap.ensures)))
+    (more after (λ p b. not (gap p b)) Outside c.loop-i.place c.args.text.now c.loop-i.i (omega arith) c.loop-i.invariant (ap not (sym c.if-not-is_gap.ensures)))
 
 pub returns : goal.returns
 returns c = record { is = all after (λ p b. not (gap p b)) Outside c.loop-i.place c.args.text.now c.loop-i.i (omega arith) (omega arith) c.loop-i.invariant; within = omega arith }

@@ -6,8 +6,8 @@ use Rattle.machine.proofs.Going.{again, stopped, done, rests}
 use Rattle.machine.proofs.work.Goals as goal
 use Rattle.machine.proofs.work.Goals.{then-loop-cycles-test+else-not-cpu, else-loop-cycles-test}
 
-pub overflow-add-cycles : goal.overflow-add-cycles
-overflow-add-cycles g c =
+pub overflow_add-cycles : goal.overflow_add-cycles
+overflow_add-cycles g c =
     let s = state c.loop-cycles.cpu c.loop-cycles.memory (seen g.P.Port c.loop-cycles.port) in
     omega (arith, costs_one s _ c.in-Ok.ensures.answer)
 

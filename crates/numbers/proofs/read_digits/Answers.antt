@@ -11,11 +11,11 @@ returns c =
     let m : min c.loop-b.n 65536 ≡ c.loop-b.n = omega arith in
     sym (sym c.loop-b.invariant.0 ∙ e ∙ ap Some m)
 
-pub returns-in-default : goal.returns-in-default
-returns-in-default c =
+pub returns-in_default : goal.returns-in_default
+returns-in_default c =
     let xs = c.args.digits.now in
     let i = c.loop-b.b-index in
-    let none : c.args.base ≤ digit_value c.from.result = omega (arith, c.in-default.ensures.value) in
+    let none : c.args.base ≤ digit_value c.from.result = omega (arith, c.in_default.ensures.value) in
     let more = at_drop_more (λ l. capped (digits_from c.args.base c.loop-b.n l)) xs i 0 (omega arith) in
     sym (sym c.loop-b.invariant.0 ∙ more ∙ capped_stop c.args.base c.loop-b.n (get_or xs i 0) (drop (i + 1) xs) (subst (λ d. c.args.base ≤ digit_value d) c.from.ensures none))
 

@@ -4,4 +4,4 @@ use Rattle.report.proofs.add_number.Goals as goal
 
 pub returns : goal.returns
 returns c =
-    subst (λ (n : ℕ). Added (decimal n) c.args.at c.args.out.now c.add-decimal.result c.add-decimal.new.out) (c.from.ensures ∙ c.number.ensures) c.add-decimal.ensures
+    subst (λ (n : ℕ). Added (decimal n) c.args.at c.args.out.now c.add_decimal.result c.add_decimal.new.out) (c.from.ensures ∙ c.number.ensures) c.add_decimal.ensures

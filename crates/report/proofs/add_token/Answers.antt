@@ -5,7 +5,7 @@ use Rattle.report.specs.Lines.{token_of}
 use Rattle.report.proofs.Parts.{joined}
 use Rattle.report.proofs.add_token.Goals as goal
 
-pub returns-in-ok-at : goal.returns-in-ok-at
-returns-in-ok-at c =
-    subst (λ (r : Refusal). Added (token_of r) c.args.at c.args.out.now c.add-decimal.result c.add-decimal.new.out) (sym c.in-Token.is)
-    (joined (codes " token ") (decimal c.in-Token.k) c.args.at _ _ _ _ _ c.in-ok-at.ensures c.add-decimal.ensures)
+pub returns-in_ok-at : goal.returns-in_ok-at
+returns-in_ok-at c =
+    subst (λ (r : Refusal). Added (token_of r) c.args.at c.args.out.now c.add_decimal.result c.add_decimal.new.out) (sym c.in-Token.is)
+    (joined (codes " token ") (decimal c.in-Token.k) c.args.at _ _ _ _ _ c.in_ok-at.ensures c.add_decimal.ensures)

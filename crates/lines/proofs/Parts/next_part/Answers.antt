@@ -6,19 +6,19 @@ use Rattle.lines.specs.declared.Place.TheVariants.{Outside}
 use Rattle.lines.proofs.Firsts.{settled, part_ends}
 use Rattle.lines.proofs.Parts.next_part.Goals as goal
 
-pub returns-then-is-empty : goal.returns-then-is-empty
-returns-then-is-empty c =
+pub returns-then-is_empty : goal.returns-then-is_empty
+returns-then-is_empty c =
     let xs = c.args.self.now.rest.now in
-    let n = c.gap-len.result in
-    (no_piece after gap Outside settled (λ l. part_ends Outside l tt) xs _ n c.gap-len.ensures.is (take_rest xs n) (true-eqb _ 0 c.if-is-empty.ensures), refl)
+    let n = c.gap_len.result in
+    (no_piece after gap Outside settled (λ l. part_ends Outside l tt) xs _ n c.gap_len.ensures.is (take_rest xs n) (true-eqb _ 0 c.if-is_empty.ensures), refl)
 
 pub returns : goal.returns
 returns c =
     let xs = c.args.self.now.rest.now in
-    let n = c.gap-len.result in
+    let n = c.gap_len.result in
     let ys = take (length xs - n) (drop n xs) in
-    let some : 0 < length ys = omega (arith, false-eqb (length ys) 0 c.if-is-empty.ensures) in
-    let k = c.part-len.result in (
-      cut_piece after gap Outside settled (λ l. part_ends Outside l tt) xs ys n c.gap-len.ensures.is (take_rest xs n) _ k some c.part-len.ensures.is c.split-at.ensures.back _ c.split-at.ensures.front,
-      cut_shorter after gap Outside settled (λ l. part_ends Outside l tt) xs ys n c.gap-len.ensures.is (take_rest xs n) _ k some c.part-len.ensures.is c.split-at.ensures.back,
+    let some : 0 < length ys = omega (arith, false-eqb (length ys) 0 c.if-is_empty.ensures) in
+    let k = c.part_len.result in (
+      cut_piece after gap Outside settled (λ l. part_ends Outside l tt) xs ys n c.gap_len.ensures.is (take_rest xs n) _ k some c.part_len.ensures.is c.split_at.ensures.back _ c.split_at.ensures.front,
+      cut_shorter after gap Outside settled (λ l. part_ends Outside l tt) xs ys n c.gap_len.ensures.is (take_rest xs n) _ k some c.part_len.ensures.is c.split_at.ensures.back,
     )

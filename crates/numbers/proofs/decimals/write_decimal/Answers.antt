@@ -6,8 +6,8 @@ pub loop-left-init : goal.loop-left-init
 loop-left-init c =
     (first_place c.args.n c.args.places.now (omega arith) c.told-places, omega arith, omega arith, omega arith, length-set _ _ _ ∙ c.told-places)
 
-pub overflow-sub-at : goal.overflow-sub-at
-overflow-sub-at c = omega (arith, some_place c.loop-left.left c.loop-left.at c.loop-left-test.true c.loop-left.invariant.1)
+pub overflow_sub-at : goal.overflow_sub-at
+overflow_sub-at c = omega (arith, some_place c.loop-left.left c.loop-left.at c.loop-left-test.true c.loop-left.invariant.1)
 
 pub loop-left-preserved : goal.loop-left-preserved
 loop-left-preserved c =

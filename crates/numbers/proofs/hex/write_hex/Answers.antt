@@ -7,7 +7,7 @@ use Rattle.numbers.proofs.hex.write_hex.Goals as goal
 pub returns : goal.returns
 returns c =
     let word = c.args.word in
-    let is : c.hex-digit.result ∷ c.hex-digit-2.result ∷ c.hex-digit-3.result ∷ c.hex-digit-4.result ∷ [] ≡ hex4 word = search rules in
+    let is : c.hex_digit.result ∷ c.hex_digit-2.result ∷ c.hex_digit-3.result ∷ c.hex_digit-4.result ∷ [] ≡ hex4 word = search rules in
     record {
       value = is;
       reads = subst (λ (ds : List ℕ). reading 16 (48 ∷ 120 ∷ ds) ≡ Some word) (sym is) (hex_reads word (omega arith));

@@ -4,20 +4,20 @@ use Rattle.std.proofs.lemmas.Result.{err_from_is_err_and}
 use Rattle.lines.specs.Places.{parts}
 use Rattle.operations.proofs.Takes.{not_quoted, text_taken, text_fault}
 use Rattle.operations.proofs.fields.take_string.Goals as goal
-use Rattle.operations.proofs.fields.take_string.Goals.{in-default-field-via-then-field-lt1, in-default-field-via-else-field-lt1+in-default·}
+use Rattle.operations.proofs.fields.take_string.Goals.{in_default-field-via-then-field-lt1, in_default-field-via-else-field-lt1+in_default·}
 
-pub returns-in-default-field : goal.returns-in-default-field
-returns-in-default-field c =
-    not_quoted (parts c.args.fields.rest.now) _ c.in-Some.field.now c.in-Some.ensures.0 c.in-ok-end-fields.ensures
-    (λ e. elim c.in-default-field.branch [
-      | in-default-field-via-then-field-lt1 w ↦ (let none = get_or_past c.in-Some.field.now 0 0 (omega (arith, ltb-true)) in omega arith)
-      | in-default-field-via-else-field-lt1+in-default· w ↦ omega arith
+pub returns-in_default-field : goal.returns-in_default-field
+returns-in_default-field c =
+    not_quoted (parts c.args.fields.rest.now) _ c.in-Some.field.now c.in-Some.ensures.0 c.in_ok-end_fields.ensures
+    (λ e. elim c.in_default-field.branch [
+      | in_default-field-via-then-field-lt1 w ↦ (let none = get_or_past c.in-Some.field.now 0 0 (omega (arith, ltb-true)) in omega arith)
+      | in_default-field-via-else-field-lt1+in_default· w ↦ omega arith
     ])
 
-pub returns-in-err-count : goal.returns-in-err-count
-returns-in-err-count c =
-    let p = err_from_is_err_and c.from-residual-in-err-count.result c.from-residual-in-err-count.ensures.1 in
-    rw (p.1, p.2) (text_fault (parts c.args.fields.rest.now) _ c.in-Some.field.now c.in-Some.ensures.0 c.in-ok-end-fields.ensures (omega arith) _ c.in-err-count.ensures.all)
+pub returns-in_err-count : goal.returns-in_err-count
+returns-in_err-count c =
+    let p = err_from_is_err_and c.from_residual-in_err-count.result c.from_residual-in_err-count.ensures.1 in
+    rw (p.1, p.2) (text_fault (parts c.args.fields.rest.now) _ c.in-Some.field.now c.in-Some.ensures.0 c.in_ok-end_fields.ensures (omega arith) _ c.in_err-count.ensures.all)
 
 pub returns : goal.returns
-returns c = text_taken (parts c.args.fields.rest.now) _ c.in-Some.field.now c.in-Some.ensures.0 c.in-ok-end-fields.ensures (omega arith) c.in-ok-count.count c.in-ok-count.ensures.all
+returns c = text_taken (parts c.args.fields.rest.now) _ c.in-Some.field.now c.in-Some.ensures.0 c.in_ok-end_fields.ensures (omega arith) c.in_ok-count.count c.in_ok-count.ensures.all

@@ -5,11 +5,11 @@ use Rattle.operations.specs.Mnemonics.{mnemonic}
 use Rattle.source.proofs.Steps.{named_by}
 use Rattle.source.proofs.reading.read_named.Goals as goal
 
-pub returns-in-err-operation : goal.returns-in-err-operation
-returns-in-err-operation c =
-    let p = err_from_is_err_and c.from-residual.result c.from-residual.ensures.1 in
+pub returns-in_err-operation : goal.returns-in_err-operation
+returns-in_err-operation c =
+    let p = err_from_is_err_and c.from_residual.result c.from_residual.ensures.1 in
     rw (p.1, p.2)
-    (named_by c.args.line (option_map (λ x. x.now) c.args.label) (parts c.args.fields.rest.now) c.in-Some.mnemonic (mnemonic c.args.name.now) c.in-Some.ensures _ c.in-err-operation.ensures)
+    (named_by c.args.line (option_map (λ x. x.now) c.args.label) (parts c.args.fields.rest.now) c.in-Some.mnemonic (mnemonic c.args.name.now) c.in-Some.ensures _ c.in_err-operation.ensures)
 
 pub returns : goal.returns
-returns c = named_by c.args.line (option_map (λ x. x.now) c.args.label) (parts c.args.fields.rest.now) c.in-Some.mnemonic (mnemonic c.args.name.now) c.in-Some.ensures _ c.in-ok-operation.ensures
+returns c = named_by c.args.line (option_map (λ x. x.now) c.args.label) (parts c.args.fields.rest.now) c.in-Some.mnemonic (mnemonic c.args.name.now) c.in-Some.ensures _ c.in_ok-operation.ensures

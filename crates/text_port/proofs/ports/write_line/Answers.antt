@@ -8,7 +8,7 @@ returns c =
     let xs = c.args.buffer.now in
     let at = c.args.at in
     let word = c.args.word in
-    let is : c.copy-from-slice.new.self ≡ line word = search rules in
+    let is : c.copy_from_slice.new.self ≡ line word = search rules in
     let five : at + 5 - at ≡ 5 = omega arith in
     ap (λ ys. take at xs ++ (ys ++ drop (at + 5 - at) (drop at xs))) is
     ∙ ap (λ k. take at xs ++ (line word ++ drop k (drop at xs))) five

@@ -8,4 +8,4 @@ returns-then-first-ne92 c =
 pub returns : goal.returns
 returns c =
     taken c.args.self.now.rest.now c.in-Some.behind.now c.in-Some.first.now c.in-Some.ensures.cases.0 c.if-first-eq34.false
-    c.in-Some-split-first.behind.now c.in-Some-split-first.taken.now c.in-ok-character.character c.in-Some-split-first.ensures.cases.0 c.if-first-ne92.false c.in-ok-character.ensures
+    c.in-Some-split_first.behind.now c.in-Some-split_first.taken.now c.in_ok-character.character c.in-Some-split_first.ensures.cases.0 c.if-first-ne92.false c.in_ok-character.ensures

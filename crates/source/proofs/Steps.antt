@@ -1,7 +1,7 @@
 -- One statement, from its operation to its line.
-use Rattle.std.proofs.Common.{◌≡◌, ℕ, Bool, true, false, not, ◌&&◌, List, [], ◌∷◌, is_some, Some, None, Ok, Err, Decides, Option, Result, sym, refl, ap, ◌∙◌, Bor}
+use Rattle.std.proofs.Common.{◌≡◌, ℕ, Bool, true, false, not, ◌&&◌, List, [], ◌∷◌, is_some, Some, None, Ok, Err, Option, Result, sym, refl, ap, ◌∙◌, Bor}
 use Rattle.std.specs.Option.{option_map}
-use Rattle.std.specs.Cmp.Lexicographic.{Matches}
+use Rattle.std.specs.Str.{bytes_eq}
 use Rattle.faults.specs.declared.StatementFault.{StatementFault}
 use Rattle.faults.specs.Chains.{under}
 use Rattle.operations.specs.declared.Mnemonic.{Mnemonic}
@@ -9,7 +9,6 @@ use Rattle.operations.specs.declared.Mnemonic.TheVariants as name
 use Rattle.operations.specs.Mnemonics.{name_of}
 use Rattle.operations.specs.Kinds.{Read, sized}
 use Rattle.operations.specs.Reading.{operation}
-use Rattle.operations.proofs.Tables.{compared}
 use Rattle.source.specs.Statements.{ReadStatement, stated, told, lacks_label}
 
 -- an operation and the number of its words, as a statement
@@ -32,9 +31,9 @@ not_not : (b : Bool) → not (not b) ≡ b
 not_not true = refl
 not_not false = refl
 
-module _ (text def : List ℕ) (r : Bool) (h : Matches (λ (a b : ℕ) (t : Bool). Decides t (a ≡ b)) text def r) (is : def ≡ name_of name.Def) (label : Option (Bor (List ℕ))) where
+module _ (text def : List ℕ) (r : Bool) (h : r ≡ bytes_eq text def) (is : def ≡ name_of name.Def) (label : Option (Bor (List ℕ))) where
   pub defines : (none : Bool) → r ≡ true → is_some label ≡ not none → none ≡ lacks_label text (option_map (λ x. x.now) label)
-  defines none t e = rw (← is, compared text def r h, t) (sym (not_not none) ∙ ap not (sym (seen_some label ∙ e)))
+  defines none t e = rw (← is, ← h, t) (sym (not_not none) ∙ ap not (sym (seen_some label ∙ e)))
 
   pub defines_not : r ≡ false → r ≡ lacks_label text (option_map (λ x. x.now) label)
-  defines_not t = t ∙ rw (← is, compared text def r h, t)
+  defines_not t = t ∙ rw (← is, ← h, t)

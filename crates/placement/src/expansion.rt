@@ -41,7 +41,7 @@ pub(crate) fn expand<'a, L: Labels>(
     address: u16,
     labels: &L,
 ) -> Result<Words<'a>, LabelFault>
-    ensures { then result (told_words (valued labels.now)) ≡ words_of (valued labels.now) address (seen_operation operation.entry) }
+    ensures { then result (told_words (L.valued labels.now)) ≡ words_of (L.valued labels.now) address (seen_operation operation.entry) }
 {
     match operation {
         Operation::Compute(f, o) => Ok(Words::One(Instruction::Compute(f, o).encode())),

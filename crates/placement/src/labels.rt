@@ -23,7 +23,7 @@ pub(crate) fn resolve<'a, L: Labels>(
     imm: Immediate<&'a [u8]>,
     labels: &L,
 ) -> Result<Immediate<u16>, LabelFault>
-    ensures { result ≡ resolved_immediate (valued labels.now) (seen imm.entry) }
+    ensures { result ≡ resolved_immediate (L.valued labels.now) (seen imm.entry) }
 {
     match imm {
         Immediate::Number(n) => Ok(Immediate::Number(n)),
@@ -47,7 +47,7 @@ pub(crate) fn resolve_word<'a, L: Labels>(
     imm: Immediate<&'a [u8]>,
     labels: &L,
 ) -> Result<u16, LabelFault>
-    ensures { result ≡ resolved_word (valued labels.now) (seen imm.entry) }
+    ensures { result ≡ resolved_word (L.valued labels.now) (seen imm.entry) }
 {
     Ok(word_of(resolve(imm, labels)?))
 }
@@ -85,7 +85,7 @@ pub(crate) fn resolve_distance<'a, L: Labels>(
     address: u16,
     labels: &L,
 ) -> Result<Imm8, LabelFault>
-    ensures { result ≡ under (distance_of address) (resolved_target (valued labels.now) address (seen imm.entry)) }
+    ensures { result ≡ under (distance_of address) (resolved_target (L.valued labels.now) address (seen imm.entry)) }
 {
     reach(resolve(imm, labels)?, address)
 }

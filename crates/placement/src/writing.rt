@@ -16,7 +16,7 @@ fn next_value<'a, L: Labels>(
     values: Values<'a>,
     labels: &L,
 ) -> Result<Option<(u16, Words<'a>)>, LabelFault>
-    ensures { Removed (valued labels.now) (Each values.entry) result }
+    ensures { Removed (L.valued labels.now) (Each values.entry) result }
 {
     let mut values = values;
     let Ok(Some(value)) = values.next_value() else {
@@ -41,7 +41,7 @@ fn next_word<'a, L: Labels>(
     words: Words<'a>,
     labels: &L,
 ) -> Result<Option<(u16, Words<'a>)>, LabelFault>
-    ensures { Removed (valued labels.now) words.entry result }
+    ensures { Removed (L.valued labels.now) words.entry result }
 {
     match words {
         Words::Nothing => Ok(None),
@@ -59,7 +59,7 @@ fn lay_words<'a, L: Labels>(
     out: &mut [u16],
 ) -> Result<Option<usize>, LabelFault>
     requires { out.old ≡ blank (length out.old) }
-    ensures { Laid (told_words (valued labels.now) words.entry) (length out.old) result out.new }
+    ensures { Laid (told_words (L.valued labels.now) words.entry) (length out.old) result out.new }
 {
     let mut words = words;
     let mut at = 0;
@@ -83,7 +83,7 @@ fn write_expanded<'a, L: Labels>(
     out: &mut [u16],
 ) -> Result<Option<usize>, LabelFault>
     requires { out.old ≡ blank (length out.old) }
-    ensures { Laid (words_of (valued labels.now) address (seen_operation operation.entry)) (length out.old) result out.new }
+    ensures { Laid (words_of (L.valued labels.now) address (seen_operation operation.entry)) (length out.old) result out.new }
 {
     lay_words(expand(operation, address, labels)?, labels, out)
 }
@@ -95,8 +95,8 @@ pub fn write_words<'a, L: Labels>(
     labels: &L,
     out: &mut [u16],
 ) -> Result<usize, StatementFault>
-    ensures answer { result ≡ (placing (words_of (valued labels.now) address (seen_operation operation.entry)) (length out.old)).answer }
-    ensures after { out.new ≡ (placing (words_of (valued labels.now) address (seen_operation operation.entry)) (length out.old)).after }
+    ensures answer { result ≡ (placing (words_of (L.valued labels.now) address (seen_operation operation.entry)) (length out.old)).answer }
+    ensures after { out.new ≡ (placing (words_of (L.valued labels.now) address (seen_operation operation.entry)) (length out.old)).after }
 {
     out.fill(0);
     match write_expanded(operation, address, labels, out) {

@@ -23,7 +23,7 @@ mod tests {
         assert!(rt; tape.send(5).is_ok());
         assert!(rt; tape.send(6).is_ok());
         assert!(rt; tape.send(7).is_err());
-        assert!(rt; tape.sent() == &[5, 6]);
+        assert!(rt; tape.sent() == [5, 6].as_slice());
     }
 
     #[test]
@@ -46,7 +46,7 @@ mod tests {
         let mut tape = Tape::new(&[1], &mut out);
         assert_eq!(rt; tape.take().ok(), Some(1));
         assert!(rt; tape.send(5).is_ok());
-        assert!(rt; tape.sent() == &[5]);
+        assert!(rt; tape.sent() == [5].as_slice());
         assert!(rt; out == [5, 12, 13]);
     }
 
@@ -59,7 +59,7 @@ mod tests {
         assert!(rt; tape.send(5).is_ok());
         assert!(rt; tape.send(6).is_err());
         assert_eq!(rt; tape.count_waiting(), 0);
-        assert!(rt; tape.sent() == &[5]);
+        assert!(rt; tape.sent() == [5].as_slice());
         assert!(rt; out == [5]);
     }
 
@@ -70,7 +70,7 @@ mod tests {
         assert_eq!(rt; tape.count_free(), 0);
         assert_eq!(rt; tape.take().ok(), None);
         assert!(rt; tape.send(1).is_err());
-        assert!(rt; tape.sent() == &[]);
+        assert!(rt; tape.sent() == [].as_slice());
     }
 
     // 0x00ff ^ 0x0f0f is 0x0ff0.
@@ -84,7 +84,7 @@ mod tests {
         assert_eq!(rt; port.take().ok(), None);
         assert!(rt; port.send(0x00ff).is_ok());
         assert_eq!(rt; port.count_free(), 1);
-        assert!(rt; port.below().sent() == &[0x00ff]);
+        assert!(rt; port.below().sent() == [0x00ff].as_slice());
     }
 
     // 0xff00 ^ 0x0ff0 is 0xf0f0, and 0x1234 ^ 0xf0f0 is 0xe2c4.
@@ -100,7 +100,7 @@ mod tests {
         assert!(rt; port.send(4).is_err());
         let mut below = port.into_below();
         assert_eq!(rt; below.take().ok(), Some(0xed34));
-        assert!(rt; below.into_below().sent() == &[3]);
+        assert!(rt; below.into_below().sent() == [3].as_slice());
     }
 
     #[test]

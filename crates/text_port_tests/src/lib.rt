@@ -90,7 +90,7 @@ mod tests {
         assert!(rt; port.send(0xabcd).is_ok());
         assert!(rt; port.send(5).is_err());
         assert_eq!(rt; port.count_waiting(), 1);
-        assert!(rt; port.written() == b"0003\nabcd\n");
+        assert!(rt; port.written() == b"0003\nabcd\n".as_slice());
         assert!(rt; out == *b"0003\nabcd\n...");
     }
 
@@ -101,6 +101,6 @@ mod tests {
         let mut port = Polarity::new(TextPort::new(b"0x00ff", &mut out), 0x0f0f);
         assert_eq!(rt; port.take().ok(), Some(0x0ff0));
         assert!(rt; port.send(0x00ff).is_ok());
-        assert!(rt; port.below().written() == b"00ff\n");
+        assert!(rt; port.below().written() == b"00ff\n".as_slice());
     }
 }

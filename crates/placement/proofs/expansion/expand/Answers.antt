@@ -8,18 +8,18 @@ use Rattle.placement.specs.Placing.{words_of}
 use Rattle.placement.proofs.Reach.{branch_word, branched, unconditional}
 use Rattle.placement.proofs.expansion.expand.Goals as goal
 
-pub returns-in_ok-imm : goal.returns-in_ok-imm
-returns-in_ok-imm g c =
+pub returns-in_ok-imm-in-Branch : goal.returns-in_ok-imm-in-Branch
+returns-in_ok-imm-in-Branch g c =
     let labels = g.L.Labels.valued c.args.labels.now in
     ap (λ w. Ok (w ∷ [])) c.encode-in-Branch.ensures.value
-    ∙ ap (branch_word c.args.address c.in-Branch.t c.in-Branch.o.rd) c.in_ok-imm.ensures
+    ∙ ap (branch_word c.args.address c.in-Branch.t c.in-Branch.o.rd) c.in_ok-imm-in-Branch.ensures
     ∙ branched c.args.address c.in-Branch.t c.in-Branch.o.rd (resolved_target labels c.args.address (seen c.in-Branch.o.imm))
     ∙ sym (ap (λ o. words_of labels c.args.address (seen_operation o)) c.in-Branch.is)
 
-pub returns-in_ok-imm-2 : goal.returns-in_ok-imm-2
-returns-in_ok-imm-2 g c =
+pub returns-in_ok-imm-in-Br : goal.returns-in_ok-imm-in-Br
+returns-in_ok-imm-in-Br g c =
     let labels = g.L.Labels.valued c.args.labels.now in
     ap (λ w. Ok (w ∷ [])) c.encode-in-Br.ensures.value
-    ∙ ap (branch_word c.args.address Equal R0) c.in_ok-imm-2.ensures
+    ∙ ap (branch_word c.args.address Equal R0) c.in_ok-imm-in-Br.ensures
     ∙ unconditional c.args.address (resolved_target labels c.args.address (seen c.in-Br.target))
     ∙ sym (ap (λ o. words_of labels c.args.address (seen_operation o)) c.in-Br.is)

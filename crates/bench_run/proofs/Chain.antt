@@ -1,9 +1,9 @@
 -- A new machine loaded and run over a port of some meaning, as the definitions tell it.
-use Rattle.std.proofs.Common.{◌≡◌, ℕ, zero, suc, ◌+◌, ◌-◌, ◌<◌, ◌≤◌, List, Result, sym, refl, ap, ◌∙◌, arith}
+use Rattle.std.proofs.Common.{◌≡◌, ℕ, suc, ◌+◌, ◌-◌, ◌<◌, ◌≤◌, List, sym, refl, ap, ◌∙◌, arith}
 use Rattle.port.specs.Meaning.{Meaning}
 use Rattle.port.specs.Tape as tape
 use Rattle.machine.specs.Calls.{Standing, unloaded, loading, running}
-use Rattle.bench_run.specs.Timed.{runs_from, timed}
+use Rattle.bench_run.specs.Timed.{runs_from}
 
 pub loaded : (image memory input output : List ℕ) (m : Meaning) (before after : Standing) → m ≡ tape.fresh input output → before ≡ unloaded memory m → after ≡ (loading image before).after → after ≡ (loading image (unloaded memory (tape.fresh input output))).after
 loaded image memory input output m before after fresh_is NewIs load_is =

@@ -2,7 +2,7 @@
 use Rattle.std.specs.Prelude.{ℕ, zero, suc, List, Ok, Err, Result}
 use Rattle.port.specs.Tape as tape
 use Rattle.machine.specs.declared.Refusal.{Refusal}
-use Rattle.machine.specs.Calls.{Standing, Sight, unloaded, loading, running, looking}
+use Rattle.machine.specs.Calls.{Standing, Sight, unloaded, loading, running}
 
 -- so many runs of 1,000,000 cycles; a refused one alters nothing
 unfoldable pub runs_from : ℕ → Standing → Standing

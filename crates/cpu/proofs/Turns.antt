@@ -10,7 +10,7 @@ use Rattle.port.specs.Meaning.{Meaning, taking, sending}
 use Rattle.cpu.specs.declared.Stop.{Stop}
 use Rattle.cpu.specs.declared.Stop.TheVariants.{Spent, Halted, Outside, Unassigned, Dry as DryStop, Full as FullStop}
 use Rattle.cpu.specs.States.{State}
-use Rattle.cpu.specs.Steps.{Turn, met, inside, took, gave, perform, fetched, step_of}
+use Rattle.cpu.specs.Steps.{Turn, took, gave, perform, fetched, step_of}
 
 -- what a turn from a state is, by its answer
 abbrev pub Turned : ℕ → State → Result ℕ Stop → State → Type 0

@@ -1,5 +1,5 @@
 -- One word done. Assumes nothing.
-use Rattle.std.specs.Prelude.{ℕ, Bool, true, cond, List, length, Some, None, Ok, Err, Option, Result, nat_lt, slice_index, slice_set}
+use Rattle.std.specs.Prelude.{ℕ, true, cond, List, length, Some, None, Ok, Err, Option, Result, nat_lt, slice_index, slice_set}
 use Rattle.words.specs.declared.Register.{Register}
 use Rattle.words.specs.declared.Instruction.{Instruction}
 use Rattle.words.specs.Registers.{written}

@@ -1,8 +1,8 @@
 -- Shifts as products and quotients by powers of two, and bits of conjunctions and disjunctions.
-use Rattle.std.proofs.Common.{◌≡◌, ℕ, ◌+◌, ◌-◌, ◌*◌, ◌/◌, ◌%◌, ◌^◌, ◌<◌, ◌≤◌, min, max, Bool, true, false, cond, ltb, ◌⊎◌, ℤ, pos, ◌-ℤ◌, neg_ℤ, sym, refl, ap, ◌∙◌, inl, inr, ⊎_elim, mul_assoc, mul_comm, mul-one, div-one, arith}
+use Rattle.std.proofs.Common.{◌≡◌, ℕ, ◌+◌, ◌-◌, ◌*◌, ◌/◌, ◌%◌, ◌^◌, ◌<◌, ◌≤◌, min, max, ltb, ◌⊎◌, pos, neg_ℤ, sym, ap, ◌∙◌, ⊎_elim, mul_assoc, arith}
 use lib.Bits.{bit_and, bit_or, and_step, or_step}
 use Rattle.std.proofs.lemmas.Int.{ints}
-use Rattle.std.proofs.lemmas.Nat.{pow-add, pow_pos, div_below, and_shr, or_shr, mod-mul-add}
+use Rattle.std.proofs.lemmas.Nat.{pow-add, pow_pos, div_below, and_shr, or_shr}
 use Rattle.std.proofs.lemmas.Bool.{lt-ltb, le-ltb, cases_lt, cond-true, cond-false}
 use Rattle.words.specs.Values.{shifted}
 use Rattle.effects.specs.Whole.{signed_from}

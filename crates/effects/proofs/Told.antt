@@ -1,5 +1,5 @@
 -- Each operation's effect, in signed terms.
-use Rattle.std.proofs.Common.{◌≡◌, ℕ, ◌+◌, ◌*◌, ◌%◌, ◌<◌, Bool, cond, List, refl, ap, arith}
+use Rattle.std.proofs.Common.{◌≡◌, ℕ, ◌+◌, ◌<◌, Bool, cond, List, refl, ap, arith}
 use Rattle.words.specs.declared.Register.{Register}
 use Rattle.words.specs.declared.Register.TheVariants.{R0, R1, R2, R3, R4, R5, R6, R7}
 use Rattle.words.specs.Registers.{reading}

@@ -1,5 +1,5 @@
 -- What stands behind an answer that is good.
-use Rattle.std.proofs.Common.{◌≡◌, ℕ, Bool, true, false, cond, ◌⊎◌, List, [], ◌∷◌, ◌++◌, map, Ok, Err, Result, sym, refl, ap, ◌∙◌, subst, inl, inr, ⊎_elim, arith}
+use Rattle.std.proofs.Common.{◌≡◌, ℕ, Bool, true, false, cond, ◌⊎◌, List, [], ◌∷◌, ◌++◌, map, Ok, Err, Result, sym, refl, ap, subst, inl, inr, ⊎_elim, arith}
 use Rattle.faults.specs.Chains.{and_then, then, under, gathered}
 
 -- an answer is not both

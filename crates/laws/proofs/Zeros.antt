@@ -1,5 +1,5 @@
 -- Register 0 stays zero.
-use Rattle.std.proofs.Common.{◌≡◌, ℕ, zero, suc, ◌+◌, ◌-◌, ◌<◌, Bool, true, false, cond, eqb, ltb, List, length, get_or, set, Some, None, Ok, Err, Option, Result, sym, refl, ap, ◌∙◌, subst, ⊎_elim, arith}
+use Rattle.std.proofs.Common.{◌≡◌, ℕ, zero, suc, ◌+◌, ◌-◌, ◌<◌, cond, eqb, ltb, List, length, get_or, set, Some, None, Ok, Err, Option, Result, sym, refl, ◌∙◌, subst, ⊎_elim, arith}
 use Rattle.std.proofs.lemmas.List.{get_or-set_other}
 use Rattle.std.proofs.lemmas.Bool.{cond_both, cases_eq, eqb-false}
 use Rattle.port.specs.declared.Dry.{Dry}
@@ -11,7 +11,6 @@ use Rattle.words.specs.declared.Instruction.TheVariants.{Compute, Not, Jalr, In,
 use Rattle.words.specs.Registers.{number_of, written}
 use Rattle.words.specs.Coding.{decoded, cost_of}
 use Rattle.words.specs.Acts.{Act, go, load, store, take_word, send_word, halt, act}
-use Rattle.cpu.specs.declared.Stop.{Stop}
 use Rattle.cpu.specs.States.{State}
 use Rattle.cpu.specs.Steps.{Turn, took, gave, perform, fetched, step_of}
 use Rattle.machine.specs.declared.Refusal.{Refusal}

@@ -2,7 +2,7 @@
 use Rattle.std.specs.Prelude.{◌≡◌, ℕ, true, false, List, [], ◌∷◌, ◌++◌, replicate, Some, None, slice_set}
 use Rattle.port.specs.Meaning.{Meaning}
 use Rattle.words.specs.declared.Register.{Register}
-use Rattle.words.specs.declared.Register.TheVariants.{R0, R1, R2, R3, R4, R5, R6, R7}
+use Rattle.words.specs.declared.Register.TheVariants.{R0, R1, R2, R3, R4, R5, R6}
 use Rattle.words.specs.declared.Function.TheVariants.{Add, Sub, And, Or}
 use Rattle.words.specs.declared.Test.TheVariants.{Equal, NotEqual, Greater, GreaterEqual, Less, LessEqual}
 use Rattle.words.specs.declared.ThreeRegisters.{ThreeRegisters}
@@ -16,7 +16,7 @@ use Rattle.words.specs.Immediates.{imm6_of, imm8_of}
 use Rattle.words.specs.Coding.{encoded, decoded}
 use Rattle.cpu.specs.declared.Stop.TheVariants.{Halted, Outside, Unassigned}
 use Rattle.cpu.specs.States.{State}
-use Rattle.cpu.specs.Steps.{Turn, did, met, step_of}
+use Rattle.cpu.specs.Steps.{did, met, step_of}
 use Rattle.machine.specs.Runs.{Ran, run_of}
 use Rattle.machine.specs.Calls.{fresh}
 

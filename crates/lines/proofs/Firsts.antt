@@ -1,9 +1,9 @@
 -- The first line of a source, and the first part of a line.
-use Rattle.std.proofs.Common.{◌≡◌, ℕ, suc, ◌+◌, ◌-◌, ◌<◌, ◌≤◌, Bool, true, false, cond, not, ◌||◌, eqb, ◌⊎◌, List, [], ◌∷◌, length, get_or, take, drop, sym, refl, ap, ◌∙◌, subst, inl, inr, ⊎_elim, arith, length-drop}
+use Rattle.std.proofs.Common.{◌≡◌, ℕ, suc, ◌-◌, ◌<◌, true, false, eqb, ◌⊎◌, List, [], ◌∷◌, length, take, drop, refl, ap, inl, inr, ⊎_elim, arith}
 use native.Mathlib.Nat.{sub-zero}
 use Rattle.std.proofs.lemmas.Bool.{false≢true, both_ways, cases_Bool, cond_both, eqb-true, or_from, or_parts}
 use Rattle.std.proofs.lemmas.Bool.Decides.{nat_tests}
-use Rattle.pieces.specs.Pieces.{white, joined, behind, pieces, until, run_len}
+use Rattle.pieces.specs.Pieces.{white, joined, behind, pieces, until}
 use Rattle.pieces.proofs.Cuts.{gaps_len, piece_len}
 use Rattle.lines.specs.declared.Place.{Place}
 use Rattle.lines.specs.declared.Place.TheVariants.{Outside, Text, Escape, Comment}

@@ -8,7 +8,7 @@ use Rattle.pieces.proofs.Cuts.{behind_gaps, behind_front}
 use Rattle.lines.specs.declared.Place.{Place}
 use Rattle.lines.specs.declared.Place.TheVariants.{Outside, Comment}
 use Rattle.lines.specs.Places.{after, allows, allowed_from, allowed, gap, parts}
-use Rattle.lines.specs.Laws.{White, EndsOutside, Respaced, between, at_start, at_end, comment, Alike, SpaceLaw}
+use Rattle.lines.specs.Laws.{White, EndsOutside, between, at_start, at_end, comment, Alike, SpaceLaw}
 use Rattle.lines.proofs.Firsts.{white_stays}
 
 white_allowed : (c : ℕ) → white c ≡ true → allows Outside c ≡ true

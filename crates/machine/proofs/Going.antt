@@ -1,5 +1,5 @@
 -- One word more of a run, and its end.
-use Rattle.std.proofs.Common.{◌≡◌, ℕ, zero, suc, ◌+◌, ◌-◌, ◌<◌, ◌≤◌, Bool, true, false, cond, eqb, Ok, Err, Result, sym, refl, ap, ◌∙◌, add-zero, arith}
+use Rattle.std.proofs.Common.{◌≡◌, ℕ, zero, suc, ◌+◌, ◌-◌, ◌<◌, ◌≤◌, true, false, cond, Ok, Err, Result, sym, refl, ap, ◌∙◌, add-zero, arith}
 use Rattle.std.proofs.lemmas.Bool.{ne_eqb}
 use Rattle.cpu.specs.declared.Stop.{Stop}
 use Rattle.cpu.specs.declared.Stop.TheVariants.{Halted, Spent}

@@ -1,5 +1,5 @@
 -- A run: words done until the budget is done or a stop comes. Assumes nothing.
-use Rattle.std.specs.Prelude.{ℕ, zero, suc, ◌+◌, ◌-◌, Bool, true, false, cond, Ok, Err, Result, ◌==◌}
+use Rattle.std.specs.Prelude.{ℕ, zero, suc, ◌+◌, ◌-◌, Bool, true, false, cond, Ok, Err, ◌==◌}
 use Rattle.cpu.specs.declared.Stop.{Stop}
 use Rattle.cpu.specs.declared.Stop.TheVariants.{Spent, Halted}
 use Rattle.cpu.specs.States.{State}

@@ -2,7 +2,7 @@
 use Rattle.std.proofs.Common.{◌≡◌, ℕ, ◌+◌, ◌-◌, ◌/◌, cond, ◌&&◌, eqb, List, length, get_or, take, drop, Option, sym, ◌∙◌, arith}
 use Rattle.std.proofs.lemmas.List.{take_rest}
 use Rattle.std.proofs.lemmas.Bool.Decides.{nat_tests}
-use Rattle.numbers.specs.Reading.{pattern, negative, positive, begins, after_sign, reading}
+use Rattle.numbers.specs.Reading.{pattern, negative, positive, after_sign, reading}
 
 module _ (bits : ℕ) (text : List ℕ) (r : Option ℕ) where
   pub minus_way : get_or text 0 0 ≡ 45 → r ≡ negative bits (take (length text - 1) (drop 1 text)) → r ≡ after_sign bits text

@@ -1,7 +1,7 @@
 -- The texts that one would write for a number, and that they are read.
-use Rattle.std.proofs.Common.{◌≡◌, ℕ, zero, suc, ◌+◌, ◌-◌, ◌*◌, ◌/◌, ◌%◌, ◌^◌, ◌<◌, ◌≤◌, cond, List, [], ◌∷◌, ◌++◌, length, replicate, Some, decimal, sym, refl, ap, ◌∙◌, pow-suc, arith}
+use Rattle.std.proofs.Common.{◌≡◌, ℕ, zero, suc, ◌+◌, ◌-◌, ◌*◌, ◌/◌, ◌%◌, ◌^◌, ◌<◌, List, [], ◌∷◌, ◌++◌, length, replicate, Some, decimal, refl, ap, ◌∙◌, pow-suc, arith}
 use native.Mathlib.Nat.{pow-zero}
-use Rattle.std.specs.Str.Parse.{AllDigits, IsNumeral, digits_value as value, digits_value_after}
+use Rattle.std.specs.Str.Parse.{AllDigits, digits_value as value}
 use Rattle.std.specs.Char.{digit_value, digit_char}
 use Rattle.std.proofs.lemmas.Nat.{div-add-mod', div_below, mod_below}
 use Rattle.std.proofs.lemmas.Int.Digits.{digits_value_push, digits_push}
@@ -12,7 +12,7 @@ use Rattle.numbers.specs.declared.Width.{Width}
 use Rattle.numbers.specs.declared.Width.TheVariants.{Six, Eight, Sixteen}
 use Rattle.numbers.specs.Reading.{bits_of, reading}
 use Rattle.numbers.specs.Hex.{hex4}
-use Rattle.numbers.specs.Texts.{Writes, Text, plain, plus, minus, hexadecimal, binary, usual, digits_of, Spells, HasTexts}
+use Rattle.numbers.specs.Texts.{Writes, plain, plus, minus, hexadecimal, binary, usual, digits_of, Spells, HasTexts}
 use Rattle.numbers.proofs.Told.{read_as}
 
 behind_zeros : (zeros : ℕ) (ds : List ℕ) (n : ℕ) → Writes 10 ds n → Writes 10 (replicate zeros 48 ++ ds) n

@@ -1,13 +1,13 @@
 -- Exactly the texts of a width are read, each to its word.
-use Rattle.std.proofs.Common.{◌≡◌, ℕ, ◌+◌, ◌-◌, ◌/◌, ◌%◌, ◌^◌, ◌<◌, ◌≤◌, Bool, true, false, cond, ◌&&◌, eqb, List, [], ◌∷◌, length, get_or, drop, Some, None, Option, sym, refl, ap, ◌∙◌, subst, mod-lt, arith, pow_pos, pow_mono}
+use Rattle.std.proofs.Common.{◌≡◌, ℕ, ◌+◌, ◌-◌, ◌/◌, ◌^◌, ◌<◌, ◌≤◌, true, eqb, List, [], ◌∷◌, length, get_or, drop, Some, Option, sym, refl, ap, ◌∙◌, subst, mod-lt, arith, pow_pos, pow_mono}
 use Rattle.std.specs.Str.Parse.{AllDigits}
 use Rattle.std.specs.Char.{digit_value}
 use Rattle.std.proofs.lemmas.Bool.{eqb-true, and_parts, cond_both}
 use Rattle.std.proofs.lemmas.Bool.Decides.{nat_tests}
 use Rattle.numbers.specs.Reading.{pattern, positive, negative, begins, after_sign, reading}
-use Rattle.numbers.specs.Texts.{Writes, Text, plain, plus, minus, hexadecimal, binary, ReadsTexts}
+use Rattle.numbers.specs.Texts.{Text, plain, plus, minus, hexadecimal, binary, ReadsTexts}
 use Rattle.numbers.proofs.Prefixes.{decimal_way}
-use Rattle.numbers.proofs.Values.{none_not, positive_told, positive_only, negative_told, negative_only, pattern_told, pattern_only}
+use Rattle.numbers.proofs.Values.{positive_told, positive_only, negative_told, negative_only, pattern_told, pattern_only}
 
 decimal_digit : (c : ℕ) → digit_value c < 10 → (48 ≤ c) × (c ≤ 57)
 decimal_digit c h = (grind (arith, nat_tests), grind (arith, nat_tests))

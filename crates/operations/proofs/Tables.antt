@@ -1,5 +1,5 @@
 -- One name of the list of operations.
-use Rattle.std.proofs.Common.{◌≡◌, ℕ, Bool, true, false, List, ◌∷◌, Some, ◌∙◌, sym, refl}
+use Rattle.std.proofs.Common.{◌≡◌, ℕ, Bool, true, false, List, ◌∷◌, Some}
 use Rattle.std.specs.Str.{bytes_eq}
 use Rattle.operations.specs.declared.mnemonics.Mnemonic.{Mnemonic}
 use Rattle.operations.specs.Mnemonics.{named, name_of}

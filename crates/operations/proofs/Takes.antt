@@ -1,7 +1,7 @@
 -- The values of a `.fill` and the text of a `.cstr`, counted.
 use Rattle.std.proofs.Common.{◌≡◌, ℕ, ◌+◌, ◌-◌, List, [], ◌∷◌, map, length, get_or, take, drop, Ok, Err, Result, sym, refl, ap, ◌∙◌}
 use Rattle.std.proofs.lemmas.List.{take_rest}
-use Rattle.std.proofs.lemmas.Bool.{eq-eqb, ne_eqb}
+use Rattle.std.proofs.lemmas.Bool.{ne_eqb}
 use Rattle.faults.specs.declared.OperandFault.{OperandFault}
 use Rattle.faults.specs.declared.StatementFault.{StatementFault}
 use Rattle.faults.specs.declared.StatementFault.TheVariants.{Malformed, InOperand}

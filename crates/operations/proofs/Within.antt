@@ -1,14 +1,14 @@
 -- Accepted fields lie in their ranges.
-use Rattle.std.proofs.Common.{◌≡◌, ℕ, ◌^◌, ◌<◌, ◌≤◌, Bool, true, false, cond, ◌&&◌, eqb, leb, List, [], ◌∷◌, map, get_or, drop, Some, None, Ok, Err, Option, Result, sym, refl, ap, ◌∙◌, subst, inl, inr, ⊎_elim, arith}
+use Rattle.std.proofs.Common.{◌≡◌, ℕ, ◌^◌, ◌<◌, Bool, true, false, eqb, leb, List, [], ◌∷◌, map, get_or, drop, Some, None, Ok, Err, Option, Result, sym, refl, ap, ◌∙◌, subst, inl, inr, ⊎_elim, arith}
 use Rattle.std.specs.Option.{ok_or}
-use Rattle.std.proofs.lemmas.Bool.{cases_Bool, and_parts, leb-true, eqb-true}
+use Rattle.std.proofs.lemmas.Bool.{cases_Bool, and_parts, leb-true}
 use Rattle.numbers.specs.Reading.{reading}
 use Rattle.numbers.proofs.Told.{reads_below}
 use Rattle.faults.specs.declared.OperandFault.{OperandFault}
 use Rattle.faults.specs.declared.OperandFault.TheVariants.{BadNumber}
 use Rattle.faults.specs.declared.StatementFault.{StatementFault}
 use Rattle.faults.specs.declared.StatementFault.TheVariants.{Malformed, InOperand}
-use Rattle.faults.specs.Chains.{then, under, gathered}
+use Rattle.faults.specs.Chains.{under, gathered}
 use Rattle.faults.proofs.Inverse.{never, same_value, held_and_then, held_under, held_cond}
 use Rattle.lines.specs.declared.Place.TheVariants.{Outside, Text, Escape}
 use Rattle.lines.specs.Places.{after, allows, allowed_from, allowed}

@@ -1,12 +1,10 @@
 -- Words laid one behind another into a buffer of zeros.
-use Rattle.std.proofs.Common.{◌≡◌, ℕ, ◌+◌, ◌-◌, ◌<◌, ◌≤◌, Bool, true, false, List, [], ◌∷◌, ◌++◌, length, take, drop, set, Some, None, Ok, Err, Result, sym, refl, ap, ◌∙◌, append_assoc, append-nil, add-one, arith}
-use native.Mathlib.Nat.{sub-zero}
+use Rattle.std.proofs.Common.{◌≡◌, ℕ, ◌+◌, ◌<◌, ◌≤◌, Bool, true, false, List, [], ◌∷◌, ◌++◌, length, take, drop, set, Ok, Err, Result, sym, refl, ap, ◌∙◌, append_assoc, add-one, arith}
 use Rattle.std.proofs.lemmas.List.{length-append, set_split}
-use Rattle.buffers.specs.Buffers.{blank, padded, overlaid}
+use Rattle.buffers.specs.Buffers.{padded, overlaid}
 use Rattle.buffers.proofs.Laid.{length_padded, overlaid_padded}
 use Rattle.faults.specs.declared.LabelFault.{LabelFault}
 use Rattle.faults.specs.Chains.{then}
-use Rattle.placement.specs.Placing.{Laid}
 
 -- whether the words done so far stand in the buffer, or do not fit
 abbrev pub Standing : Bool → List ℕ → ℕ → ℕ → List ℕ → Type 0

@@ -1,5 +1,5 @@
 -- An operation's width is the number of its words.
-use Rattle.std.proofs.Common.{◌≡◌, ℕ, ◌+◌, ◌%◌, ◌<◌, true, leb, List, [], ◌∷◌, map, length, Ok, Err, Result, sym, refl, ap, ◌∙◌, arith}
+use Rattle.std.proofs.Common.{◌≡◌, ℕ, ◌+◌, ◌<◌, true, leb, List, [], ◌∷◌, map, length, Ok, Err, Result, sym, refl, ap, ◌∙◌, arith}
 use Rattle.std.proofs.lemmas.List.{length_push, length-map}
 use Rattle.std.proofs.lemmas.Bool.{leb-true, and_parts}
 use Rattle.std.proofs.lemmas.Bool.Decides.{nat_tests}
@@ -8,7 +8,6 @@ use Rattle.words.specs.Values.{wrapped}
 use Rattle.words.specs.Acts.{behind}
 use Rattle.faults.specs.declared.LabelFault.{LabelFault}
 use Rattle.faults.specs.Chains.{then, under, gathered}
-use Rattle.operands.specs.declared.Immediate.{Immediate}
 use Rattle.operands.specs.declared.Immediate.TheVariants.{Label}
 use Rattle.operations.specs.declared.Operation.TheVariants.{Compute, Not, Jalr, In, Out, Addi, Shf, Lw, Sw, Lli, Lui, Branch, Br, Halt, Jmp, Mov, Lwi, Push, Pop, Fill, Cstr, Def}
 use Rattle.operations.specs.Kinds.{Read, width_of}

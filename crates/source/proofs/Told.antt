@@ -1,14 +1,14 @@
 -- The laws of lines and sources that are read.
-use Rattle.std.proofs.Common.{◌≡◌, ℕ, suc, ◌+◌, ◌<◌, ◌≤◌, Bool, true, false, cond, not, leb, ◌⊎◌, List, [], ◌∷◌, ◌++◌, map, length, Some, None, Ok, Err, Option, Result, sym, refl, ap, ◌∙◌, subst, inl, inr, ⊎_elim, arith, MatchOption}
+use Rattle.std.proofs.Common.{◌≡◌, ℕ, suc, ◌+◌, Bool, true, false, cond, leb, List, [], ◌∷◌, ◌++◌, length, Some, None, Ok, Err, Option, Result, sym, refl, ap, ◌∙◌, subst, ⊎_elim, arith, MatchOption}
 use Rattle.std.specs.Option.{option_map}
 use Rattle.std.proofs.lemmas.Bool.{le-leb, lt-leb, cases_lt, cond-true, cond-false}
 use Rattle.faults.specs.declared.StatementFault.{StatementFault}
-use Rattle.faults.specs.declared.StatementFault.TheVariants.{Malformed, UnknownOperation}
+use Rattle.faults.specs.declared.StatementFault.TheVariants.{Malformed}
 use Rattle.faults.specs.declared.AssemblyFault.{AssemblyFault}
-use Rattle.faults.specs.declared.AssemblyFault.TheVariants.{TooLong, ForbiddenByte, InStatement}
+use Rattle.faults.specs.declared.AssemblyFault.TheVariants.{ForbiddenByte, InStatement}
 use Rattle.faults.specs.Faults.{on_line}
 use Rattle.faults.specs.Chains.{and_then, under, gathered}
-use Rattle.faults.proofs.Inverse.{never, same_value, held_and_then, held_under, held_cond, all_good, first_fault, either}
+use Rattle.faults.proofs.Inverse.{never, same_value, held_under, held_cond, all_good, first_fault, either}
 use Rattle.lines.specs.Lines.{lines}
 use Rattle.lines.specs.Places.{allowed, parts}
 use Rattle.lines.specs.Laws.{Respaced}
@@ -22,7 +22,7 @@ use Rattle.operations.specs.Reading.{operation}
 use Rattle.operations.proofs.Within.{within}
 use Rattle.source.specs.Statements.{ReadStatement, label_of, stated, told, lacks_label, operated, begun, statement}
 use Rattle.source.specs.Reading.{line_answer, answers, stated_in, statements}
-use Rattle.source.specs.Laws.{statement_on, fault_on, renumbered, InRange, LineReading, Outcome, long, accepted, refused, SourceReading}
+use Rattle.source.specs.Laws.{statement_on, renumbered, InRange, LineReading, Outcome, long, accepted, refused, SourceReading}
 
 spacing : (n : ℕ) (one other : List ℕ) → Respaced one other → line_answer n one ≡ line_answer n other
 spacing n one other h =

@@ -1,5 +1,5 @@
 -- What holds of every line and every source that is read. Assumes nothing.
-use Rattle.std.specs.Prelude.{◌≡◌, ℕ, ◌+◌, ◌<◌, ◌≤◌, true, ◌⊎◌, List, [], ◌∷◌, ◌++◌, map, length, Some, None, Ok, Err, Option, Result, MatchOption}
+use Rattle.std.specs.Prelude.{◌≡◌, ℕ, ◌+◌, ◌<◌, ◌≤◌, true, List, ◌∷◌, ◌++◌, map, length, Some, Ok, Err, Option, Result, MatchOption}
 use Rattle.std.specs.Option.{option_map}
 use Rattle.faults.specs.declared.AssemblyFault.{AssemblyFault}
 use Rattle.faults.specs.declared.AssemblyFault.TheVariants.{TooLong, ForbiddenByte, InStatement}

@@ -1,5 +1,5 @@
 -- Decoding undoes encoding, and an assigned word is its instruction's word and its unused bits.
-use Rattle.std.proofs.Common.{◌≡◌, ℕ, ◌+◌, ◌*◌, ◌/◌, ◌%◌, ◌<◌, ◌≤◌, Bool, true, false, cond, eqb, Some, None, Option, sym, refl, ap, ◌∙◌, add-zero, arith}
+use Rattle.std.proofs.Common.{◌≡◌, ℕ, ◌+◌, ◌*◌, ◌/◌, ◌%◌, ◌<◌, Bool, true, false, cond, eqb, Some, None, Option, sym, refl, ap, ◌∙◌, add-zero, arith}
 use Rattle.std.proofs.lemmas.Bool.{eqb-true, eqb-false}
 use Rattle.words.specs.declared.instructions.RegistersImm6.{RegistersImm6}
 use Rattle.words.specs.declared.instructions.RegisterImm8.{RegisterImm8}
@@ -9,10 +9,10 @@ use Rattle.words.specs.declared.instructions.Test.{Test}
 use Rattle.words.specs.declared.instructions.Test.TheVariants.{Equal, NotEqual, Greater, GreaterEqual, Less, LessEqual}
 use Rattle.words.specs.declared.instructions.Instruction.{Instruction}
 use Rattle.words.specs.declared.instructions.Instruction.TheVariants.{Compute, Not, Jalr, In, Out, Addi, Shf, Lw, Sw, Lli, Lui, Branch}
-use Rattle.words.specs.Registers.{number_of, register_of}
-use Rattle.words.specs.Coding.{encoded, decoded, by_opcode, by_function, function_code, test_code, of_registers, of_imm6, of_imm8, rd_of, rs1_of, three_of, two_of, with_imm6, with_imm8}
+use Rattle.words.specs.Registers.{number_of}
+use Rattle.words.specs.Coding.{encoded, decoded, by_opcode, by_function, function_code, test_code, of_imm6, of_imm8, rd_of, rs1_of, three_of, two_of, with_imm6, with_imm8}
 use Rattle.words.specs.Unused.{unused, UnusedIgnored, WordOf}
-use Rattle.words.proofs.Fields.{Fields, fields, number_below, number_is, register_is, three_is, two_is, imm6_is, imm8_is, packed_registers, packed_rest, packed_imm8}
+use Rattle.words.proofs.Fields.{fields, number_below, number_is, register_is, three_is, two_is, imm6_is, imm8_is, packed_registers, packed_rest, packed_imm8}
 
 -- the function codes of opcode 0, read
 function_below : (f : Function) → function_code f < 4

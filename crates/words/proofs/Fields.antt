@@ -9,7 +9,7 @@ use Rattle.words.specs.declared.instructions.RegistersImm6.{RegistersImm6}
 use Rattle.words.specs.declared.instructions.RegisterImm8.{RegisterImm8}
 use Rattle.words.specs.Registers.{number_of, numbered, register_of}
 use Rattle.words.specs.Immediates.{imm6_of, imm8_of}
-use Rattle.words.specs.Coding.{rd_of, rs1_of, three_of, two_of, with_imm6, with_imm8}
+use Rattle.words.specs.Coding.{three_of, two_of, with_imm6, with_imm8}
 use Rattle.words.proofs.Bits.{same_imm6, same_imm8}
 
 pub number_below : (r : Register) → number_of r < 8

@@ -1,4 +1,4 @@
-use Rattle.std.proofs.Common.{◌≡◌, sym, ap, ◌∙◌}
+use Rattle.std.proofs.Common.{sym, ap, ◌∙◌}
 use Rattle.port.specs.Tape.{held, means}
 use Rattle.machine.specs.Calls.{Standing, looking, shown}
 use Rattle.bench_run.specs.Timed.{runs_from, count_of}

@@ -1,6 +1,6 @@
-use Rattle.std.proofs.Common.{◌≡◌, ◌+◌, ◌&&◌, get_or, drop, sym, ap, ◌∙◌, arith}
+use Rattle.std.proofs.Common.{◌+◌, ◌&&◌, get_or, drop, sym, ap, ◌∙◌, arith}
 use Rattle.std.proofs.lemmas.List.{at_drop_more, at_drop_all}
-use Rattle.lines.specs.Places.{after, allows, allowed_from}
+use Rattle.lines.specs.Places.{after, allowed_from}
 use Rattle.lines.proofs.is_allowed.Goals as goal
 
 pub returns-then-not-allows : goal.returns-then-not-allows

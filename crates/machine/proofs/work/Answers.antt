@@ -1,6 +1,6 @@
-use Rattle.std.proofs.Common.{◌≤◌, sym, ap, ◌∙◌, true≢false, arith}
+use Rattle.std.proofs.Common.{◌≤◌, sym, ◌∙◌, true≢false, arith}
 use Rattle.port.specs.Kinds.{seen}
-use Rattle.cpu.specs.States.{State, state}
+use Rattle.cpu.specs.States.{state}
 use Rattle.cpu.proofs.Turns.{costs_one}
 use Rattle.machine.proofs.Going.{again, stopped, done, rests}
 use Rattle.machine.proofs.work.Goals as goal

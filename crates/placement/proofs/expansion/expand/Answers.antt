@@ -1,4 +1,4 @@
-use Rattle.std.proofs.Common.{◌≡◌, [], ◌∷◌, Ok, sym, ap, ◌∙◌}
+use Rattle.std.proofs.Common.{[], ◌∷◌, Ok, sym, ap, ◌∙◌}
 use Rattle.words.specs.declared.Test.TheVariants.{Equal}
 use Rattle.words.specs.declared.Register.TheVariants.{R0}
 use Rattle.operands.specs.Operands.{seen}

@@ -1,6 +1,4 @@
-use Rattle.std.proofs.Common.{◌≡◌, ℕ, ◌<◌, ◌≤◌, List, ◌++◌, length, Ok}
-use Rattle.faults.specs.Chains.{then}
-use Rattle.buffers.specs.Buffers.{padded}
+use Rattle.std.proofs.Common.{length}
 use Rattle.placement.specs.Placing.{told_words, size_of}
 use Rattle.placement.proofs.Laying.{Sofar}
 use Rattle.placement.proofs.writing.lay_words.Given as goal

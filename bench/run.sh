@@ -4,6 +4,6 @@
 set -eu
 cd "$(dirname "$0")/.."
 mkdir -p target/bench
-rt staticlib bench_run >target/bench/staticlib.log 2>&1 || { cat target/bench/staticlib.log; exit 1; }
-rustc --edition 2024 -C opt-level=3 -C codegen-units=1 -L native=target/staticlib --crate-name bench bench/src/main.rs -o target/bench/bench
+(cd crates/bench_run && rt lib) >target/bench/staticlib.log 2>&1 || { cat target/bench/staticlib.log; exit 1; }
+rustc --edition 2024 -C opt-level=3 -C codegen-units=1 -L native=crates/bench_run/out --crate-name bench bench/src/main.rs -o target/bench/bench
 exec target/bench/bench "$@"

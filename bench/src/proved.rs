@@ -1,4 +1,4 @@
-//! The call to the proved machine, in the static library that `rt staticlib bench_run` writes.
+//! The call to the proved machine, in the static library that `rt lib` writes for the crate `bench_run`.
 
 #[link(name = "bench_run", kind = "static")]
 unsafe extern "C" {

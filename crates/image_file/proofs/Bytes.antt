@@ -1,6 +1,6 @@
 -- Words as bytes and bytes as words: each undoes the other, and the step of a loop over either.
 use Rattle.std.proofs.Common.{◌≡◌, ℕ, ◌+◌, ◌*◌, ◌/◌, ◌%◌, ◌<◌, ◌≤◌, List, [], ◌∷◌, ◌++◌, length, get_or, take, drop, set, sym, refl, ap, ◌∙◌, arith}
-use Rattle.std.specs.List.{AllByRecursion as All}
+use Rattle.std.specs.List.{AllByRecursion}
 use Rattle.std.proofs.lemmas.List.{append_assoc, append-nil, at_drop_more, take_more_set, drop_more, take_all, drop_all, length-set}
 use Rattle.image_file.specs.Bytes.{bytes_of, words_of}
 use Rattle.image_file.specs.Laws.{ByteLaws}
@@ -11,7 +11,7 @@ words_back (word ∷ words) =
     let joined : word / 256 * 256 + word % 256 ≡ word = omega arith in
     cc (joined, words_back words)
 
-bytes_back : (bytes : List ℕ) → All (λ b. b < 256) bytes → length bytes % 2 ≡ 0 → bytes_of (words_of bytes) ≡ bytes
+bytes_back : (bytes : List ℕ) → AllByRecursion (λ b. b < 256) bytes → length bytes % 2 ≡ 0 → bytes_of (words_of bytes) ≡ bytes
 bytes_back [] small even = refl
 bytes_back (high ∷ []) small even = absurd (omega arith)
 bytes_back (high ∷ low ∷ bytes) small even =

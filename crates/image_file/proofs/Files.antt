@@ -1,6 +1,6 @@
 -- A file that is written and a file that is read: what the calls answer of it, and what it gives back.
 use Rattle.std.proofs.Common.{◌≡◌, ℕ, ◌+◌, ◌*◌, ◌/◌, ◌%◌, ◌<◌, ◌≤◌, cond, ◌||◌, ltb, ◌⊎◌, List, ◌++◌, length, take, Ok, Err, Result, sym, ap, ◌∙◌, subst, inl, inr, arith}
-use Rattle.std.specs.List.{AllByRecursion as All}
+use Rattle.std.specs.List.{AllByRecursion}
 use Rattle.std.proofs.lemmas.Bool.{lt-ltb, le-ltb, ne_eqb, or_from, or_left, or_right, cond-true, cond-false}
 use Rattle.buffers.specs.Buffers.{blank, padded}
 use Rattle.buffers.proofs.Laid.{take_padded}
@@ -41,7 +41,7 @@ reads_back image few n room =
     ∙ reading_few image n room few
 
 -- a file that is read is the one that its image is written to
-written_by : (rest : List ℕ) → All (λ b. b < 256) rest → length rest % 2 ≡ 0 → length (words_of rest) ≤ 65536 → WrittenBy (words_of rest) (head ++ rest)
+written_by : (rest : List ℕ) → AllByRecursion (λ b. b < 256) rest → length rest % 2 ≡ 0 → length (words_of rest) ≤ 65536 → WrittenBy (words_of rest) (head ++ rest)
 written_by rest small even few =
     let form : file_of (words_of rest) ≡ head ++ rest = ap (λ bytes. head ++ bytes) (byte_laws.bytes_back rest small even) in
     record {
@@ -89,7 +89,7 @@ module _ (bytes rest : List ℕ) (n count : ℕ) (headed : bytes ≡ head ++ res
       )
 
   pub accepted_reading : (out : List ℕ)
-      → All (λ b. b < 256) rest
+      → AllByRecursion (λ b. b < 256) rest
       → count ≤ n
       → count ≤ 65536
       → out ≡ padded (words_of rest) n

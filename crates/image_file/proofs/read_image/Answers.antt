@@ -1,6 +1,6 @@
 use Rattle.std.proofs.Common.{◌≡◌, ◌-◌, ◌/◌, ◌<◌, ◌++◌, length, take, drop, ap, ◌∙◌, inl, inr, arith, rules}
 use borrow.Rule.Slice.PartMut.{put_mid}
-use Rattle.std.specs.List.{AllByRecursion as All}
+use Rattle.std.specs.List.{AllByRecursion}
 use Rattle.std.proofs.ByRecursion.{All-from_get_or, All-drop}
 use Rattle.std.proofs.lemmas.Slice.Eq.{starts_is}
 use Rattle.std.proofs.lemmas.List.{take_rest}
@@ -33,7 +33,7 @@ returns c =
     let headed : bytes ≡ head ++ rest = (starts_is Decides-eqb bytes head _ c.starts_with.ensures.value).0 c.if-not-starts_with.false in
     let count = length (take (length bytes - 5) rest) / 2 in
     let half : count ≡ length rest / 2 = ap (λ words. length words / 2) (take_rest bytes 5) in
-    let small : All (λ b. b < 256) bytes = All-from_get_or (λ b. b < 256) bytes 0 (λ i h. (c.type_inv.bytes i).fits) in
+    let small : AllByRecursion (λ b. b < 256) bytes = All-from_get_or (λ b. b < 256) bytes 0 (λ i h. (c.type_inv.bytes i).fits) in
     let filled : put_mid 0 (count - 0) c.fill.new.self c.read_words.new.words ≡ padded (words_of rest) n =
     ap (λ buffer. put_mid 0 (count - 0) buffer c.read_words.new.words) zeros
     ∙ overlaid_from_copy 0 (count - 0) (blank n) _ (words_of rest) (c.read_words.ensures ∙ ap words_of (take_rest bytes 5)) (omega (arith, half, length_words_of rest))

@@ -1,5 +1,5 @@
 // The instructions, the word of each, and the instruction that a word stands for.
-ghost use Rattle.std.specs.Prelude.{◌≡◌, ℕ, ◌+◌, ◌<◌, Some};
+ghost use Rattle.std.specs.Prelude.{◌≡◌, ℕ, ◌+◌, ◌/◌, ◌%◌, ◌<◌, Some};
 ghost use Rattle.words.specs.Values.{computed, passes, shifted};
 ghost use Rattle.words.specs.Coding.{encoded, decoded, cost_of, function_code, test_code, of_registers, of_imm6, of_imm8, three_of, two_of, with_imm6, with_imm8};
 ghost use Rattle.words.specs.Unused.{unused, WordOf};
@@ -10,7 +10,7 @@ use super::registers::Register;
 const WORD_CYCLES: u32 = 1;
 
 /// Operands of `add`, `sub`, `and` and `or`.
-#[derive(Clone, Copy)]
+#[derive(Clone, Copy, PartialEq, Eq, Debug)]
 pub struct ThreeRegisters {
     pub rd: Register,
     pub rs1: Register,
@@ -18,14 +18,14 @@ pub struct ThreeRegisters {
 }
 
 /// Operands of `not` and `jalr`.
-#[derive(Clone, Copy)]
+#[derive(Clone, Copy, PartialEq, Eq, Debug)]
 pub struct TwoRegisters {
     pub rd: Register,
     pub rs1: Register,
 }
 
 /// Operands of `addi`, `shf`, `lw` and `sw`.
-#[derive(Clone, Copy)]
+#[derive(Clone, Copy, PartialEq, Eq, Debug)]
 pub struct RegistersImm6 {
     pub rd: Register,
     pub rs1: Register,
@@ -33,33 +33,33 @@ pub struct RegistersImm6 {
 }
 
 /// Operands of `lli`, `lui` and the branches.
-#[derive(Clone, Copy)]
+#[derive(Clone, Copy, PartialEq, Eq, Debug)]
 pub struct RegisterImm8 {
     pub rd: Register,
     pub imm: Imm8,
 }
 
-/// What opcode 0 computes of two registers.
-#[derive(Clone, Copy)]
+/// What opcode 0 computes of two registers, by the function code.
+#[derive(Clone, Copy, PartialEq, Eq, Debug)]
 pub enum Function {
-    Add,
-    Sub,
-    And,
-    Or,
+    Add = 0,
+    Sub = 1,
+    And = 2,
+    Or = 3,
 }
 
-/// A branch's signed test of a register against 0.
-#[derive(Clone, Copy)]
+/// A branch's signed test of a register against 0, by the opcode.
+#[derive(Clone, Copy, PartialEq, Eq, Debug)]
 pub enum Test {
-    Equal,
-    NotEqual,
-    Greater,
-    GreaterEqual,
-    Less,
-    LessEqual,
+    Equal = 10,
+    NotEqual = 11,
+    Greater = 12,
+    GreaterEqual = 13,
+    Less = 14,
+    LessEqual = 15,
 }
 
-#[derive(Clone, Copy)]
+#[derive(Clone, Copy, PartialEq, Eq, Debug)]
 pub enum Instruction {
     Compute(Function, ThreeRegisters),
     Not(TwoRegisters),
@@ -92,12 +92,7 @@ impl Function {
         ensures value { result ≡ function_code self }
         ensures bound { result < 4 }
     {
-        match self {
-            Function::Add => 0,
-            Function::Sub => 1,
-            Function::And => 2,
-            Function::Or => 3,
-        }
+        self as u16
     }
 }
 
@@ -119,14 +114,7 @@ impl Test {
         ensures value { result ≡ test_code self }
         ensures bound { result < 16 }
     {
-        match self {
-            Test::Equal => 10,
-            Test::NotEqual => 11,
-            Test::Greater => 12,
-            Test::GreaterEqual => 13,
-            Test::Less => 14,
-            Test::LessEqual => 15,
-        }
+        self as u16
     }
 }
 
@@ -134,17 +122,17 @@ impl Test {
 pub fn shift(word: u16, by: Imm6) -> u16
     ensures { result ≡ shifted word by.bits }
 {
-    let places = u16::from(by.bits);
-    let wide = u64::from(word);
+    let places = u32::from(by.bits);
     if places < 32 {
-        ((wide << places) % 65536) as u16
+        word.unbounded_shl(places)
     } else {
-        (wide >> (64 - places)) as u16
+        word.unbounded_shr(64 - places)
     }
 }
 
 fn three_of(word: u16) -> ThreeRegisters
-    ensures { result ≡ three_of word }
+    ensures value { result ≡ three_of word }
+    ensures word { of_registers (word / 4096) result.rd result.rs1 result.rs2 (word % 8) ≡ word }
 {
     ThreeRegisters {
         rd: Register::from_bits(word / 512),
@@ -182,7 +170,8 @@ fn with_imm8(word: u16) -> RegisterImm8
 }
 
 fn read(word: u16) -> Option<Instruction>
-    ensures { result ≡ decoded word }
+    ensures value { result ≡ decoded word }
+    ensures word { WordOf word result }
 {
     match word / 4096 {
         0 => match word % 8 {
@@ -218,7 +207,8 @@ fn read(word: u16) -> Option<Instruction>
 }
 
 fn pack_registers(code: u16, rd: Register, rs1: Register, rs2: Register, function: u16) -> u16
-    requires { (code < 16) × (function < 8) }
+    requires code { code < 16 }
+    requires function { function < 8 }
     ensures { result ≡ of_registers code rd rs1 rs2 function }
 {
     code * 4096 + rd.number() * 512 + rs1.number() * 64 + rs2.number() * 8 + function

@@ -13,7 +13,7 @@ use Rattle.words.specs.declared.Instruction.{Instruction}
 use Rattle.words.specs.declared.Instruction.TheVariants.{Compute, Not, Jalr, In, Out, Addi, Shf, Lw, Sw, Lli, Lui, Branch}
 use Rattle.words.specs.Registers.{reading, written}
 use Rattle.words.specs.Acts.{Act, go, load, store, take_word, send_word, halt, act}
-use Rattle.effects.specs.Whole.{signed, value6, value8, Represents}
+use Rattle.effects.specs.Whole.{signed, value, Represents}
 
 -- a word's bit at a place
 abbrev pub bit : ℕ → ℕ → ℕ
@@ -57,16 +57,16 @@ module _ (place : ℕ) (rs : List ℕ) where
     pub takes : (rd : Register) → act (In rd) place rs ≡ take_word rd
     pub halts : act (Out R0) place rs ≡ halt
     pub sends : (rd : Register) → (rd ≢ R0) → act (Out rd) place rs ≡ send_word (reading rs rd)
-    pub adds_immediate : (o : RegistersImm6) → Puts (Addi o) o.rd (λ w. Represents w (holds o.rs1 +ℤ value6 o.imm))
-    pub shifts_left : (o : RegistersImm6) (n : ℕ) → value6 o.imm ≡ pos n → Puts (Shf o) o.rd (λ w. w ≡ reading rs o.rs1 * 2 ^ n % 65536)
-    pub shifts_right : (o : RegistersImm6) (n : ℕ) → value6 o.imm ≡ neg_ℤ (pos n) → Puts (Shf o) o.rd (λ w. w ≡ reading rs o.rs1 / 2 ^ n)
-    pub shifts_out : (o : RegistersImm6) (n : ℕ) → (value6 o.imm ≡ pos n) ⊎ (value6 o.imm ≡ neg_ℤ (pos n)) → 16 ≤ n → Puts (Shf o) o.rd (λ w. w ≡ 0)
-    pub loads : (o : RegistersImm6) → Asks (Lw o) (load o.rd) (λ at. Represents at (holds o.rs1 +ℤ value6 o.imm))
-    pub stores : (o : RegistersImm6) → Asks (Sw o) (λ at. store at (reading rs o.rd)) (λ at. Represents at (holds o.rs1 +ℤ value6 o.imm))
-    pub extends : (o : RegisterImm8) → Puts (Lli o) o.rd (λ w. signed w ≡ value8 o.imm)
+    pub adds_immediate : (o : RegistersImm6) → Puts (Addi o) o.rd (λ w. Represents w (holds o.rs1 +ℤ value o.imm))
+    pub shifts_left : (o : RegistersImm6) (n : ℕ) → value o.imm ≡ pos n → Puts (Shf o) o.rd (λ w. w ≡ reading rs o.rs1 * 2 ^ n % 65536)
+    pub shifts_right : (o : RegistersImm6) (n : ℕ) → value o.imm ≡ neg_ℤ (pos n) → Puts (Shf o) o.rd (λ w. w ≡ reading rs o.rs1 / 2 ^ n)
+    pub shifts_out : (o : RegistersImm6) (n : ℕ) → (value o.imm ≡ pos n) ⊎ (value o.imm ≡ neg_ℤ (pos n)) → 16 ≤ n → Puts (Shf o) o.rd (λ w. w ≡ 0)
+    pub loads : (o : RegistersImm6) → Asks (Lw o) (load o.rd) (λ at. Represents at (holds o.rs1 +ℤ value o.imm))
+    pub stores : (o : RegistersImm6) → Asks (Sw o) (λ at. store at (reading rs o.rd)) (λ at. Represents at (holds o.rs1 +ℤ value o.imm))
+    pub extends : (o : RegisterImm8) → Puts (Lli o) o.rd (λ w. signed w ≡ value o.imm)
     -- the upper byte is the immediate's, and the lower byte stays
     pub puts_upper : (o : RegisterImm8) → Puts (Lui o) o.rd (λ w. (w / 256 ≡ o.imm.bits) × (w % 256 ≡ reading rs o.rd % 256))
-    pub branches : (t : Test) (o : RegisterImm8) → Holds t (holds o.rd) → GoesTo (Branch t o) (λ target. Represents target (pos (place + 1) +ℤ value8 o.imm))
+    pub branches : (t : Test) (o : RegisterImm8) → Holds t (holds o.rd) → GoesTo (Branch t o) (λ target. Represents target (pos (place + 1) +ℤ value o.imm))
     pub passes_by : (t : Test) (o : RegisterImm8) → (Holds t (holds o.rd) → ⊥) → GoesTo (Branch t o) (λ target. target ≡ (place + 1) % 65536)
 
 -- at every place, with any registers

@@ -1,22 +1,18 @@
 -- Words and immediates as whole numbers. Assumes nothing.
-use Rattle.std.specs.Prelude.{◌≡◌, ℕ, ◌*◌, ◌<◌, cond, ℤ, pos, ◌+ℤ◌, ◌-ℤ◌, nat_lt}
-use Rattle.words.specs.declared.Imm6.{Imm6}
-use Rattle.words.specs.declared.Imm8.{Imm8}
+use Rattle.std.specs.Prelude.{◌≡◌, ℕ, ◌+◌, ◌*◌, ◌/◌, ◌<◌, cond, ℤ, pos, ◌+ℤ◌, ◌-ℤ◌, nat_lt}
+use Rattle.words.specs.declared.Imm.{Imm}
 
--- the signed value of a bit pattern, of which those from half on stand for a number that is 2 * half lower
+-- the signed value of a bit pattern from 0 to max, of which the upper half stands for a number that is max + 1 lower
 abbrev pub signed_from : ℕ → ℕ → ℤ
-signed_from half bits = cond (nat_lt bits half) (pos bits) (pos bits -ℤ pos (2 * half))
+signed_from max bits = cond (nat_lt bits ((max + 1) / 2)) (pos bits) (pos bits -ℤ pos (max + 1))
 
 -- the signed value of a word, -32,768 to 32,767
 abbrev pub signed : ℕ → ℤ
-signed w = signed_from 32768 w
+signed w = signed_from 65535 w
 
--- the signed value of an immediate: -32 to 31, and -128 to 127
-abbrev pub value6 : Imm6 → ℤ
-value6 i = signed_from 32 i.bits
-
-abbrev pub value8 : Imm8 → ℤ
-value8 i = signed_from 128 i.bits
+-- the signed value of an immediate: -32 to 31 with six bits, and -128 to 127 with eight
+abbrev pub value : {MAX : ℕ} → Imm MAX → ℤ
+value {MAX} i = signed_from MAX i.bits
 
 -- the word of a whole number, taken modulo 65,536: word and number differ by a multiple of it
 pub record Represents (w : ℕ) (z : ℤ) : Type 0 where

@@ -3,7 +3,7 @@ use Rattle.std.proofs.Common.{◌≡◌, ℕ, ◌+◌, ◌<◌, true, leb, List,
 use Rattle.std.proofs.lemmas.List.{length_push, length-map}
 use Rattle.std.proofs.lemmas.Bool.{leb-true, and_parts}
 use Rattle.std.proofs.lemmas.Bool.Decides.{nat_tests}
-use Rattle.words.specs.Immediates.{extended8}
+use Rattle.words.specs.Immediates.{extended}
 use Rattle.words.specs.Values.{wrapped}
 use Rattle.words.specs.Acts.{behind}
 use Rattle.faults.specs.declared.LabelFault.{LabelFault}
@@ -87,7 +87,7 @@ module _ (labels : ValuesOf) (address : ℕ) where
   widths : (o : Read) (ws : List ℕ) → words_of labels address o ≡ Ok ws → length ws ≡ width_of o
   widths o ws e = held (λ r. words_in (expanded address r)) length (width_of o) (resolved labels address o) ws (λ r is. expanded_width address r ∙ resolved_width o r is) e
 
-branches : (address v : ℕ) → address < 65536 → v < 65536 → reaches address v ≡ true → wrapped (behind address + extended8 (distance_of address (Label v))) ≡ v
+branches : (address v : ℕ) → address < 65536 → v < 65536 → reaches address v ≡ true → wrapped (behind address + extended (distance_of address (Label v))) ≡ v
 branches address v small fits near =
     let both = and_parts (leb (address + 1) (v + 128)) (leb v (address + 128)) near in
     let low = leb-true (address + 1) (v + 128) both.0 in

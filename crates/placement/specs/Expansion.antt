@@ -1,7 +1,7 @@
 -- What an operation with its labels' values places: instructions or data words. Assumes nothing.
 use Rattle.std.specs.Prelude.{ℕ, ◌+◌, ◌-◌, ◌/◌, List, [], ◌∷◌, ◌++◌, map}
 use Rattle.words.specs.declared.Register.TheVariants.{R0}
-use Rattle.words.specs.declared.Imm8.{Imm8}
+use Rattle.words.specs.declared.Imm.{Imm}
 use Rattle.words.specs.declared.RegistersImm6.{RegistersImm6}
 use Rattle.words.specs.declared.RegisterImm8.{RegisterImm8}
 use Rattle.words.specs.declared.Function.TheVariants.{Add}
@@ -28,19 +28,19 @@ words_in (code is) = map encoded is
 words_in (words ws) = ws
 
 -- the byte of `lui`: a number's own, or a label's upper one
-abbrev pub upper_of : Immediate ℕ → Imm8
+abbrev pub upper_of : Immediate ℕ → Imm 255
 upper_of (Number n) = imm8_of n
 upper_of (Label v) = imm8_of (v / 256)
 
 -- the distance of a branch: a number's own, or the label's value less the branch's address less 1
-abbrev pub distance_of : ℕ → Immediate ℕ → Imm8
+abbrev pub distance_of : ℕ → Immediate ℕ → Imm 255
 distance_of address (Number n) = imm8_of n
 distance_of address (Label v) = imm8_of (v + (65535 - address))
 
 abbrev pub with_six : RegistersNumber → RegistersImm6
 with_six o = record { rd = o.rd; rs1 = o.rs1; imm = imm6_of o.number }
 
-abbrev pub with_eight : RegisterImmediate ℕ → Imm8 → RegisterImm8
+abbrev pub with_eight : RegisterImmediate ℕ → Imm 255 → RegisterImm8
 with_eight o imm = record { rd = o.rd; imm = imm }
 
 -- each operation at an address; a pseudo-operation stands for its instructions

@@ -4,7 +4,7 @@ use Rattle.words.specs.declared.registers.Register.{Register}
 use Rattle.words.specs.declared.instructions.Instruction.{Instruction}
 use Rattle.words.specs.declared.instructions.Instruction.TheVariants.{Compute, Not, Jalr, In, Out, Addi, Shf, Lw, Sw, Lli, Lui, Branch}
 use Rattle.words.specs.Registers.{number_of, reading, written}
-use Rattle.words.specs.Immediates.{extended6, extended8}
+use Rattle.words.specs.Immediates.{extended}
 use Rattle.words.specs.Values.{wrapped, computed, passes, shifted}
 
 -- an instruction's one demand on registers, place, memory and port
@@ -27,10 +27,10 @@ act (Not o) place rs = go (written rs o.rd (65535 - reading rs o.rs1)) (behind p
 act (Jalr o) place rs = go (written rs o.rs1 (behind place)) (reading rs o.rd)
 act (In rd) place rs = take_word rd
 act (Out rd) place rs = cond (number_of rd == 0) halt (send_word (reading rs rd))
-act (Addi o) place rs = go (written rs o.rd (wrapped (reading rs o.rs1 + extended6 o.imm))) (behind place)
+act (Addi o) place rs = go (written rs o.rd (wrapped (reading rs o.rs1 + extended o.imm))) (behind place)
 act (Shf o) place rs = go (written rs o.rd (shifted (reading rs o.rs1) o.imm.bits)) (behind place)
-act (Lw o) place rs = load o.rd (wrapped (reading rs o.rs1 + extended6 o.imm))
-act (Sw o) place rs = store (wrapped (reading rs o.rs1 + extended6 o.imm)) (reading rs o.rd)
-act (Lli o) place rs = go (written rs o.rd (extended8 o.imm)) (behind place)
+act (Lw o) place rs = load o.rd (wrapped (reading rs o.rs1 + extended o.imm))
+act (Sw o) place rs = store (wrapped (reading rs o.rs1 + extended o.imm)) (reading rs o.rd)
+act (Lli o) place rs = go (written rs o.rd (extended o.imm)) (behind place)
 act (Lui o) place rs = go (written rs o.rd (o.imm.bits * 256 + reading rs o.rd % 256)) (behind place)
-act (Branch t o) place rs = go rs (cond (passes t (reading rs o.rd)) (wrapped (behind place + extended8 o.imm)) (behind place))
+act (Branch t o) place rs = go rs (cond (passes t (reading rs o.rd)) (wrapped (behind place + extended o.imm)) (behind place))

@@ -1,24 +1,20 @@
 -- Immediates by their bit patterns, and their signed values as words. Assumes nothing.
-use Rattle.std.specs.Prelude.{ℕ, ◌+◌, ◌-◌, ◌*◌, ◌%◌, cond, nat_lt}
-use Rattle.std.proofs.Common.{arith}
-use Rattle.words.specs.declared.immediates.Imm6.{Imm6}
-use Rattle.words.specs.declared.immediates.Imm8.{Imm8}
+use Rattle.std.specs.Prelude.{ℕ, suc, ◌+◌, ◌-◌, ◌/◌, ◌%◌, cond, nat_lt}
+use Rattle.std.proofs.Math.Nat.{mod-lt, zero-lt-suc, le_of_suc-le-suc}
+use Rattle.words.specs.declared.immediates.Imm.{Imm}
+
+-- the immediate of the patterns 0 to MAX that a number stands for modulo MAX + 1
+abbrev pub imm_of : (MAX : ℕ) → ℕ → Imm MAX
+imm_of MAX n = record { bits = n % suc MAX; fits = le_of_suc-le-suc (mod-lt n (zero-lt-suc MAX)) }
 
 -- the immediate in the low six bits
-abbrev pub imm6_of : ℕ → Imm6
-imm6_of n = record { bits = n % 64; six = omega arith }
+abbrev pub imm6_of : ℕ → Imm 63
+imm6_of n = imm_of 63 n
 
 -- the immediate in the low eight bits
-abbrev pub imm8_of : ℕ → Imm8
-imm8_of n = record { bits = n % 256; eight = omega arith }
+abbrev pub imm8_of : ℕ → Imm 255
+imm8_of n = imm_of 255 n
 
--- the word with the signed value of a bit pattern, of which those from half on are negative
-abbrev pub extended : ℕ → ℕ → ℕ
-extended half bits = cond (nat_lt bits half) bits (bits + (65536 - 2 * half))
-
--- the words of the signed values of immediates
-abbrev pub extended6 : Imm6 → ℕ
-extended6 i = extended 32 i.bits
-
-abbrev pub extended8 : Imm8 → ℕ
-extended8 i = extended 128 i.bits
+-- the word with the signed value of an immediate, of whose patterns the upper half is negative
+abbrev pub extended : {MAX : ℕ} → Imm MAX → ℕ
+extended {MAX} i = cond (nat_lt i.bits ((MAX + 1) / 2)) i.bits (i.bits + (65535 - MAX))

@@ -1,10 +1,10 @@
 // The register file: eight words, of which the first is always zero.
-ghost use Rattle.std.specs.Prelude.{◌≡◌, ℕ, replicate, slice_index};
-ghost use Rattle.words.specs.Registers.{reading, written};
+ghost use Rattle.std.specs.Prelude.{◌≡◌, ℕ, slice_index};
+ghost use Rattle.words.specs.Registers.{reading, written, zeros};
 
 use super::registers::Register;
 
-#[derive(Clone, Copy)]
+#[derive(Clone, Copy, PartialEq, Eq, Debug)]
 pub struct RegisterFile {
     words: [u16; 8],
     ghost zero: { slice_index words 0 ≡ 0 },
@@ -13,7 +13,7 @@ pub struct RegisterFile {
 impl RegisterFile {
     /// Eight zeros.
     pub fn new() -> RegisterFile
-        ensures { result.words ≡ replicate 8 0 }
+        ensures { result.words ≡ zeros }
     {
         RegisterFile { words: [0; 8] }
     }
@@ -29,9 +29,17 @@ impl RegisterFile {
     pub fn set(&mut self, register: Register, word: u16)
         ensures { self.new.words ≡ written self.old.words register word }
     {
-        let at = register as usize;
-        if at != 0 {
+        if register != Register::R0 {
+            let at = register as usize;
             self.words[at] = word;
         }
+    }
+}
+
+impl Default for RegisterFile {
+    ghost is_default = { λ f. f.words ≡ zeros };
+
+    fn default() -> RegisterFile {
+        RegisterFile::new()
     }
 }

@@ -1,14 +1,39 @@
-// Immediates of 6 and 8 bits, as their bit patterns.
-ghost use Rattle.std.specs.Prelude.{◌<◌};
+// Immediates, as their bit patterns, and their signed values as words.
+ghost use Rattle.std.specs.Prelude.{◌≡◌, ◌≤◌};
 
-#[derive(Clone, Copy)]
-pub struct Imm6 {
+/// An immediate of the bit patterns 0 to `MAX`, of which the upper half stands for negative numbers.
+#[derive(Clone, Copy, PartialEq, Eq, Debug)]
+pub struct Imm<const MAX: u8> {
     pub bits: u8,
-    ghost six: { bits < 64 },
+    ghost fits: { bits ≤ MAX },
 }
 
-#[derive(Clone, Copy)]
-pub struct Imm8 {
-    pub bits: u8,
-    ghost eight: { bits < 256 },
+pub type Imm6 = Imm<63>;
+
+pub type Imm8 = Imm<255>;
+
+impl<const MAX: u8> Imm<MAX> {
+    ghost use Rattle.words.specs.Immediates.{imm_of, extended};
+
+    /// The immediate in the low bits of a word.
+    pub fn from_bits(word: u16) -> Self
+        ensures { result ≡ imm_of MAX word }
+    {
+        Imm {
+            bits: (word % (u16::from(MAX) + 1)) as u8,
+        }
+    }
+
+    /// The signed value, -32 to 31 for an `Imm6` and -128 to 127 for an `Imm8`, as a word.
+    pub fn word(self) -> u16
+        ensures { result ≡ extended self.entry }
+    {
+        let max = u16::from(MAX);
+        let bits = u16::from(self.bits);
+        if bits < (max + 1) / 2 {
+            bits
+        } else {
+            65535 - max + bits
+        }
+    }
 }

@@ -1,5 +1,5 @@
 // The instructions, the word of each, and the instruction that a word stands for.
-ghost use Rattle.std.specs.Prelude.{◌≡◌, ℕ, ◌+◌, ◌<◌, Some};
+ghost use Rattle.std.specs.Prelude.{◌≡◌, ℕ, ◌+◌, ◌/◌, ◌%◌, ◌<◌, Some};
 ghost use Rattle.words.specs.Values.{computed, passes, shifted};
 ghost use Rattle.words.specs.Coding.{encoded, decoded, cost_of, function_code, test_code, of_registers, of_imm6, of_imm8, three_of, two_of, with_imm6, with_imm8};
 ghost use Rattle.words.specs.Unused.{unused, WordOf};
@@ -10,7 +10,7 @@ use super::registers::Register;
 const WORD_CYCLES: u32 = 1;
 
 /// Operands of `add`, `sub`, `and` and `or`.
-#[derive(Clone, Copy)]
+#[derive(Clone, Copy, PartialEq, Eq, Debug)]
 pub struct ThreeRegisters {
     pub rd: Register,
     pub rs1: Register,
@@ -18,14 +18,14 @@ pub struct ThreeRegisters {
 }
 
 /// Operands of `not` and `jalr`.
-#[derive(Clone, Copy)]
+#[derive(Clone, Copy, PartialEq, Eq, Debug)]
 pub struct TwoRegisters {
     pub rd: Register,
     pub rs1: Register,
 }
 
 /// Operands of `addi`, `shf`, `lw` and `sw`.
-#[derive(Clone, Copy)]
+#[derive(Clone, Copy, PartialEq, Eq, Debug)]
 pub struct RegistersImm6 {
     pub rd: Register,
     pub rs1: Register,
@@ -33,33 +33,33 @@ pub struct RegistersImm6 {
 }
 
 /// Operands of `lli`, `lui` and the branches.
-#[derive(Clone, Copy)]
+#[derive(Clone, Copy, PartialEq, Eq, Debug)]
 pub struct RegisterImm8 {
     pub rd: Register,
     pub imm: Imm8,
 }
 
-/// What opcode 0 computes of two registers.
-#[derive(Clone, Copy)]
+/// What opcode 0 computes of two registers, by the function code.
+#[derive(Clone, Copy, PartialEq, Eq, Debug)]
 pub enum Function {
-    Add,
-    Sub,
-    And,
-    Or,
+    Add = 0,
+    Sub = 1,
+    And = 2,
+    Or = 3,
 }
 
-/// A branch's signed test of a register against 0.
-#[derive(Clone, Copy)]
+/// A branch's signed test of a register against 0, by the opcode.
+#[derive(Clone, Copy, PartialEq, Eq, Debug)]
 pub enum Test {
-    Equal,
-    NotEqual,
-    Greater,
-    GreaterEqual,
-    Less,
-    LessEqual,
+    Equal = 10,
+    NotEqual = 11,
+    Greater = 12,
+    GreaterEqual = 13,
+    Less = 14,
+    LessEqual = 15,
 }
 
-#[derive(Clone, Copy)]
+#[derive(Clone, Copy, PartialEq, Eq, Debug)]
 pub enum Instruction {
     Compute(Function, ThreeRegisters),
     Not(TwoRegisters),
@@ -74,6 +74,83 @@ pub enum Instruction {
     Lli(RegisterImm8),
     Lui(RegisterImm8),
     Branch(Test, RegisterImm8),
+}
+
+// Of each kind of operands: `from_word` reads them from a word, and `fields` is what they are of one, without its opcode.
+
+impl ThreeRegisters {
+    fn from_word(word: u16) -> Self
+        ensures value { result ≡ three_of word }
+        ensures word { of_registers (word / 4096) result.rd result.rs1 result.rs2 (word % 8) ≡ word }
+    {
+        ThreeRegisters {
+            rd: Register::from_bits(word / 512),
+            rs1: Register::from_bits(word / 64),
+            rs2: Register::from_bits(word / 8),
+        }
+    }
+
+    fn fields(self) -> u16
+        ensures value { result ≡ of_registers 0 self.rd self.rs1 self.rs2 0 }
+        ensures bound { result < 4096 }
+    {
+        self.rd.number() * 512 + self.rs1.number() * 64 + self.rs2.number() * 8
+    }
+}
+
+impl TwoRegisters {
+    fn from_word(word: u16) -> Self
+        ensures { result ≡ two_of word }
+    {
+        TwoRegisters {
+            rd: Register::from_bits(word / 512),
+            rs1: Register::from_bits(word / 64),
+        }
+    }
+
+    fn fields(self) -> u16
+        ensures value { result ≡ of_registers 0 self.rd self.rs1 Register.R0 0 }
+        ensures bound { result < 4096 }
+    {
+        self.rd.number() * 512 + self.rs1.number() * 64
+    }
+}
+
+impl RegistersImm6 {
+    fn from_word(word: u16) -> Self
+        ensures { result ≡ with_imm6 word }
+    {
+        RegistersImm6 {
+            rd: Register::from_bits(word / 512),
+            rs1: Register::from_bits(word / 64),
+            imm: Imm6::from_bits(word),
+        }
+    }
+
+    fn fields(self) -> u16
+        ensures value { result ≡ of_imm6 0 self }
+        ensures bound { result < 4096 }
+    {
+        self.rd.number() * 512 + self.rs1.number() * 64 + u16::from(self.imm.bits)
+    }
+}
+
+impl RegisterImm8 {
+    fn from_word(word: u16) -> Self
+        ensures { result ≡ with_imm8 word }
+    {
+        RegisterImm8 {
+            rd: Register::from_bits(word / 512),
+            imm: Imm8::from_bits(word),
+        }
+    }
+
+    fn fields(self) -> u16
+        ensures value { result ≡ of_imm8 0 self }
+        ensures bound { result < 4096 }
+    {
+        self.rd.number() * 512 + u16::from(self.imm.bits)
+    }
 }
 
 impl Function {
@@ -92,12 +169,7 @@ impl Function {
         ensures value { result ≡ function_code self }
         ensures bound { result < 4 }
     {
-        match self {
-            Function::Add => 0,
-            Function::Sub => 1,
-            Function::And => 2,
-            Function::Or => 3,
-        }
+        self as u16
     }
 }
 
@@ -105,13 +177,14 @@ impl Test {
     pub fn passes(self, word: u16) -> bool
         ensures { result ≡ passes self word }
     {
+        let signed = word.cast_signed();
         match self {
-            Test::Equal => word == 0,
-            Test::NotEqual => word != 0,
-            Test::Greater => word != 0 && word < 32768,
-            Test::GreaterEqual => word < 32768,
-            Test::Less => word >= 32768,
-            Test::LessEqual => word == 0 || word >= 32768,
+            Test::Equal => signed == 0,
+            Test::NotEqual => signed != 0,
+            Test::Greater => signed > 0,
+            Test::GreaterEqual => signed >= 0,
+            Test::Less => signed < 0,
+            Test::LessEqual => signed <= 0,
         }
     }
 
@@ -119,14 +192,7 @@ impl Test {
         ensures value { result ≡ test_code self }
         ensures bound { result < 16 }
     {
-        match self {
-            Test::Equal => 10,
-            Test::NotEqual => 11,
-            Test::Greater => 12,
-            Test::GreaterEqual => 13,
-            Test::Less => 14,
-            Test::LessEqual => 15,
-        }
+        self as u16
     }
 }
 
@@ -134,66 +200,29 @@ impl Test {
 pub fn shift(word: u16, by: Imm6) -> u16
     ensures { result ≡ shifted word by.bits }
 {
-    let places = u16::from(by.bits);
-    let wide = u64::from(word);
+    let places = u32::from(by.bits);
     if places < 32 {
-        ((wide << places) % 65536) as u16
+        word.unbounded_shl(places)
     } else {
-        (wide >> (64 - places)) as u16
+        word.unbounded_shr(64 - places)
     }
 }
 
-fn three_of(word: u16) -> ThreeRegisters
-    ensures { result ≡ three_of word }
-{
-    ThreeRegisters {
-        rd: Register::from_bits(word / 512),
-        rs1: Register::from_bits(word / 64),
-        rs2: Register::from_bits(word / 8),
-    }
-}
-
-fn two_of(word: u16) -> TwoRegisters
-    ensures { result ≡ two_of word }
-{
-    TwoRegisters {
-        rd: Register::from_bits(word / 512),
-        rs1: Register::from_bits(word / 64),
-    }
-}
-
-fn with_imm6(word: u16) -> RegistersImm6
-    ensures { result ≡ with_imm6 word }
-{
-    RegistersImm6 {
-        rd: Register::from_bits(word / 512),
-        rs1: Register::from_bits(word / 64),
-        imm: Imm6::from_bits(word),
-    }
-}
-
-fn with_imm8(word: u16) -> RegisterImm8
-    ensures { result ≡ with_imm8 word }
-{
-    RegisterImm8 {
-        rd: Register::from_bits(word / 512),
-        imm: Imm8::from_bits(word),
-    }
-}
-
+// Apart from `decode`, whose third clause would otherwise be proved at each of these returns.
 fn read(word: u16) -> Option<Instruction>
-    ensures { result ≡ decoded word }
+    ensures value { result ≡ decoded word }
+    ensures word { WordOf word result }
 {
     match word / 4096 {
         0 => match word % 8 {
-            0 => Some(Instruction::Compute(Function::Add, three_of(word))),
-            1 => Some(Instruction::Compute(Function::Sub, three_of(word))),
-            2 => Some(Instruction::Compute(Function::And, three_of(word))),
-            3 => Some(Instruction::Compute(Function::Or, three_of(word))),
-            4 => Some(Instruction::Not(two_of(word))),
+            0 => Some(Instruction::Compute(Function::Add, ThreeRegisters::from_word(word))),
+            1 => Some(Instruction::Compute(Function::Sub, ThreeRegisters::from_word(word))),
+            2 => Some(Instruction::Compute(Function::And, ThreeRegisters::from_word(word))),
+            3 => Some(Instruction::Compute(Function::Or, ThreeRegisters::from_word(word))),
+            4 => Some(Instruction::Not(TwoRegisters::from_word(word))),
             _ => None,
         },
-        1 => Some(Instruction::Jalr(two_of(word))),
+        1 => Some(Instruction::Jalr(TwoRegisters::from_word(word))),
         2 => Some(Instruction::In(Register::from_bits(word / 512))),
         3 => {
             if word % 8 == 0 {
@@ -202,64 +231,44 @@ fn read(word: u16) -> Option<Instruction>
                 None
             }
         }
-        4 => Some(Instruction::Addi(with_imm6(word))),
-        5 => Some(Instruction::Shf(with_imm6(word))),
-        6 => Some(Instruction::Lw(with_imm6(word))),
-        7 => Some(Instruction::Sw(with_imm6(word))),
-        8 => Some(Instruction::Lli(with_imm8(word))),
-        9 => Some(Instruction::Lui(with_imm8(word))),
-        10 => Some(Instruction::Branch(Test::Equal, with_imm8(word))),
-        11 => Some(Instruction::Branch(Test::NotEqual, with_imm8(word))),
-        12 => Some(Instruction::Branch(Test::Greater, with_imm8(word))),
-        13 => Some(Instruction::Branch(Test::GreaterEqual, with_imm8(word))),
-        14 => Some(Instruction::Branch(Test::Less, with_imm8(word))),
-        _ => Some(Instruction::Branch(Test::LessEqual, with_imm8(word))),
+        4 => Some(Instruction::Addi(RegistersImm6::from_word(word))),
+        5 => Some(Instruction::Shf(RegistersImm6::from_word(word))),
+        6 => Some(Instruction::Lw(RegistersImm6::from_word(word))),
+        7 => Some(Instruction::Sw(RegistersImm6::from_word(word))),
+        8 => Some(Instruction::Lli(RegisterImm8::from_word(word))),
+        9 => Some(Instruction::Lui(RegisterImm8::from_word(word))),
+        10 => Some(Instruction::Branch(Test::Equal, RegisterImm8::from_word(word))),
+        11 => Some(Instruction::Branch(Test::NotEqual, RegisterImm8::from_word(word))),
+        12 => Some(Instruction::Branch(Test::Greater, RegisterImm8::from_word(word))),
+        13 => Some(Instruction::Branch(Test::GreaterEqual, RegisterImm8::from_word(word))),
+        14 => Some(Instruction::Branch(Test::Less, RegisterImm8::from_word(word))),
+        _ => Some(Instruction::Branch(Test::LessEqual, RegisterImm8::from_word(word))),
     }
 }
 
-fn pack_registers(code: u16, rd: Register, rs1: Register, rs2: Register, function: u16) -> u16
-    requires { (code < 16) × (function < 8) }
-    ensures { result ≡ of_registers code rd rs1 rs2 function }
-{
-    code * 4096 + rd.number() * 512 + rs1.number() * 64 + rs2.number() * 8 + function
-}
-
-fn pack_imm6(code: u16, o: RegistersImm6) -> u16
-    requires { code < 16 }
-    ensures { result ≡ of_imm6 code o }
-{
-    code * 4096 + o.rd.number() * 512 + o.rs1.number() * 64 + u16::from(o.imm.bits)
-}
-
-fn pack_imm8(code: u16, o: RegisterImm8) -> u16
-    requires { code < 16 }
-    ensures { result ≡ of_imm8 code o }
-{
-    code * 4096 + o.rd.number() * 512 + u16::from(o.imm.bits)
-}
-
+// Apart from `encode`, whose second clause would otherwise be proved at each of these returns.
 fn pack(instruction: Instruction) -> u16
     ensures { result ≡ encoded instruction }
 {
     match instruction {
-        Instruction::Compute(f, o) => pack_registers(0, o.rd, o.rs1, o.rs2, f.code()),
-        Instruction::Not(o) => pack_registers(0, o.rd, o.rs1, Register::R0, 4),
-        Instruction::Jalr(o) => pack_registers(1, o.rd, o.rs1, Register::R0, 0),
-        Instruction::In(rd) => pack_registers(2, rd, Register::R0, Register::R0, 0),
-        Instruction::Out(rd) => pack_registers(3, rd, Register::R0, Register::R0, 0),
-        Instruction::Addi(o) => pack_imm6(4, o),
-        Instruction::Shf(o) => pack_imm6(5, o),
-        Instruction::Lw(o) => pack_imm6(6, o),
-        Instruction::Sw(o) => pack_imm6(7, o),
-        Instruction::Lli(o) => pack_imm8(8, o),
-        Instruction::Lui(o) => pack_imm8(9, o),
-        Instruction::Branch(t, o) => pack_imm8(t.code(), o),
+        Instruction::Compute(f, o) => o.fields() + f.code(),
+        Instruction::Not(o) => o.fields() + 4,
+        Instruction::Jalr(o) => 4096 + o.fields(),
+        Instruction::In(rd) => 2 * 4096 + rd.number() * 512,
+        Instruction::Out(rd) => 3 * 4096 + rd.number() * 512,
+        Instruction::Addi(o) => 4 * 4096 + o.fields(),
+        Instruction::Shf(o) => 5 * 4096 + o.fields(),
+        Instruction::Lw(o) => 6 * 4096 + o.fields(),
+        Instruction::Sw(o) => 7 * 4096 + o.fields(),
+        Instruction::Lli(o) => 8 * 4096 + o.fields(),
+        Instruction::Lui(o) => 9 * 4096 + o.fields(),
+        Instruction::Branch(t, o) => t.code() * 4096 + o.fields(),
     }
 }
 
 impl Instruction {
     /// The instruction that a word stands for; unassigned words have none.
-    pub fn decode(word: u16) -> Option<Instruction>
+    pub fn decode(word: u16) -> Option<Self>
         ensures value { result ≡ decoded word }
         ensures word { WordOf word result }
         ensures ignored { (i : Instruction) (bits : ℕ) → word ≡ encoded i + unused i bits → result ≡ Some i }

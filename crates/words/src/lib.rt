@@ -4,11 +4,10 @@
 mod file;
 mod immediates;
 mod instructions;
-mod patterns;
 mod registers;
 
 pub use file::RegisterFile;
-pub use immediates::{Imm6, Imm8};
+pub use immediates::{Imm, Imm6, Imm8};
 pub use instructions::{
     Function, Instruction, RegisterImm8, RegistersImm6, Test, ThreeRegisters, TwoRegisters, shift,
 };

@@ -1,8 +1,8 @@
 // The names of the eight registers.
-ghost use Rattle.std.specs.Prelude.{◌≡◌, ℕ, ◌<◌};
+ghost use Rattle.std.specs.Prelude.{◌≡◌, ℕ, ◌%◌, ◌<◌};
 ghost use Rattle.words.specs.Registers.{number_of, register_of};
 
-#[derive(Clone, Copy)]
+#[derive(Clone, Copy, PartialEq, Eq, Debug)]
 pub enum Register {
     R0,
     R1,
@@ -25,7 +25,8 @@ impl Register {
 
     /// The register that the low three bits name.
     pub fn from_bits(bits: u16) -> Register
-        ensures { result ≡ register_of bits }
+        ensures value { result ≡ register_of bits }
+        ensures number { number_of result ≡ bits % 8 }
     {
         match bits % 8 {
             0 => Register::R0,

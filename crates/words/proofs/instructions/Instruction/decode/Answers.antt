@@ -1,14 +1,7 @@
-use Rattle.std.proofs.Common.{sym, ap, ◌∙◌, subst, arith}
+use Rattle.std.proofs.Common.{ap, ◌∙◌}
 use Rattle.words.specs.Coding.{decoded}
-use Rattle.words.specs.Unused.{WordOf}
-use Rattle.words.proofs.Codes.{ignored, word_of}
+use Rattle.words.proofs.Codes.{ignored}
 use Rattle.words.proofs.instructions.Instruction.decode.Goals as goal
 
-pub returns : goal.returns
-returns c =
-    let e = c.read.ensures in
-    record {
-      value = e;
-      word = subst (WordOf c.args.word) (sym e) (word_of c.args.word (omega arith));
-      ignored = λ i bits w. e ∙ ap decoded w ∙ ignored i bits;
-    }
+pub returns-clause-ignored : goal.returns-clause-ignored
+returns-clause-ignored c = λ i bits e. c.read.ensures.value ∙ ap decoded e ∙ ignored i bits

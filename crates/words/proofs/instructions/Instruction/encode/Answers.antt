@@ -3,5 +3,5 @@ use Rattle.words.specs.Coding.{decoded}
 use Rattle.words.proofs.Codes.{undone}
 use Rattle.words.proofs.instructions.Instruction.encode.Goals as goal
 
-pub returns : goal.returns
-returns c = record { value = c.pack.ensures; undone = ap decoded c.pack.ensures ∙ undone c.args.self }
+pub returns-clause-undone : goal.returns-clause-undone
+returns-clause-undone c = ap decoded c.pack.ensures ∙ undone c.args.self

@@ -2,7 +2,6 @@
 #![tactic(auto)]
 
 ghost use Rattle.std.specs.Prelude.{◌≡◌, ℕ};
-ghost use Rattle.port.specs.Kinds.{seen};
 ghost use Rattle.machine.specs.Calls.{stands, looking};
 ghost use Rattle.bench_run.specs.Timed.{runs_from, timed, count_of};
 
@@ -13,7 +12,7 @@ use port::{Port, Tape};
 const BUDGET: u32 = 1_000_000;
 
 fn run_on<P: Port>(machine: &mut Machine, runs: u32, memory: &mut [u16], port: &mut P)
-    ensures { stands machine.new memory.new (seen P.Port port.new) ≡ runs_from runs (stands machine.old memory.old (seen P.Port port.old)) }
+    ensures { stands machine.new memory.new (P.meaning port.new) ≡ runs_from runs (stands machine.old memory.old (P.meaning port.old)) }
 {
     for _ in 0..runs {
         let _ = machine.run(BUDGET, memory, port);

@@ -4,7 +4,6 @@
 ghost use Rattle.std.specs.Prelude.{◌≡◌, ℕ, false};
 ghost use Rattle.words.specs.Registers.{written, zeros};
 ghost use Rattle.words.specs.Acts.{behind};
-ghost use Rattle.port.specs.Kinds.{seen};
 ghost use Rattle.cpu.specs.States.{state, held};
 ghost use Rattle.cpu.specs.Steps.{step_of};
 ghost use Rattle.cpu.specs.Stops.{stop_number};
@@ -17,17 +16,17 @@ use words::{Instruction, Register, RegisterFile, shift};
 #[derive(Clone, Copy, PartialEq, Eq)]
 pub enum Stop {
     /// The budget is done.
-    Spent,
+    Spent = 0,
     /// The halting word has been done.
-    Halted,
+    Halted = 30,
     /// No word waits at the port.
-    Dry,
+    Dry = 31,
     /// The port has no free place.
-    Full,
+    Full = 32,
     /// The program counter or an address lies outside the memory.
-    Outside,
+    Outside = 33,
     /// The word stands for no instruction.
-    Unassigned,
+    Unassigned = 34,
 }
 
 impl Stop {
@@ -35,14 +34,7 @@ impl Stop {
     pub fn number(self) -> u8
         ensures { result ≡ stop_number self }
     {
-        match self {
-            Stop::Spent => 0,
-            Stop::Halted => 30,
-            Stop::Dry => 31,
-            Stop::Full => 32,
-            Stop::Outside => 33,
-            Stop::Unassigned => 34,
-        }
+        self as u8
     }
 }
 
@@ -99,8 +91,8 @@ impl Cpu {
 
     /// Does one word and answers what it costs, or stops and alters nothing.
     pub fn step<P: Port>(&mut self, memory: &mut [u16], port: &mut P) -> Result<u32, Stop>
-        ensures after { state self.new memory.new (seen P.Port port.new) ≡ (step_of (state self.old memory.old (seen P.Port port.old))).after }
-        ensures answer { result ≡ (step_of (state self.old memory.old (seen P.Port port.old))).answer }
+        ensures after { state self.new memory.new (P.meaning port.new) ≡ (step_of (state self.old memory.old (P.meaning port.old))).after }
+        ensures answer { result ≡ (step_of (state self.old memory.old (P.meaning port.old))).answer }
     {
         if self.halted {
             return Err(Stop::Halted);
@@ -116,42 +108,32 @@ impl Cpu {
             Instruction::Compute(function, o) => {
                 let word = function.apply(self.registers.get(o.rs1), self.registers.get(o.rs2));
                 self.put(o.rd, word);
-                Ok(instruction.cost())
             }
             Instruction::Not(o) => {
-                let word = 65535 - self.registers.get(o.rs1);
+                let word = !self.registers.get(o.rs1);
                 self.put(o.rd, word);
-                Ok(instruction.cost())
             }
             Instruction::Jalr(o) => {
                 let target = self.registers.get(o.rd);
                 self.put(o.rs1, self.next());
                 self.pc = target;
-                Ok(instruction.cost())
             }
             Instruction::In(rd) => {
                 let word = port.take()?;
                 self.put(rd, word);
-                Ok(instruction.cost())
             }
+            Instruction::Out(Register::R0) => self.halted = true,
             Instruction::Out(rd) => {
-                if rd.number() == 0 {
-                    self.halted = true;
-                    return Ok(instruction.cost());
-                }
                 port.send(self.registers.get(rd))?;
                 self.pc = self.next();
-                Ok(instruction.cost())
             }
             Instruction::Addi(o) => {
                 let word = self.registers.get(o.rs1).wrapping_add(o.imm.word());
                 self.put(o.rd, word);
-                Ok(instruction.cost())
             }
             Instruction::Shf(o) => {
                 let word = shift(self.registers.get(o.rs1), o.imm);
                 self.put(o.rd, word);
-                Ok(instruction.cost())
             }
             Instruction::Lw(o) => {
                 let from = self.registers.get(o.rs1).wrapping_add(o.imm.word()) as usize;
@@ -159,7 +141,6 @@ impl Cpu {
                     return Err(Stop::Outside);
                 }
                 self.put(o.rd, memory[from]);
-                Ok(instruction.cost())
             }
             Instruction::Sw(o) => {
                 let to = self.registers.get(o.rs1).wrapping_add(o.imm.word()) as usize;
@@ -168,16 +149,13 @@ impl Cpu {
                 }
                 memory[to] = self.registers.get(o.rd);
                 self.pc = self.next();
-                Ok(instruction.cost())
             }
             Instruction::Lli(o) => {
                 self.put(o.rd, o.imm.word());
-                Ok(instruction.cost())
             }
             Instruction::Lui(o) => {
                 let word = u16::from(o.imm.bits) * 256 + self.registers.get(o.rd) % 256;
                 self.put(o.rd, word);
-                Ok(instruction.cost())
             }
             Instruction::Branch(test, o) => {
                 let taken = test.passes(self.registers.get(o.rd));
@@ -185,8 +163,8 @@ impl Cpu {
                 if taken {
                     self.pc = self.pc.wrapping_add(o.imm.word());
                 }
-                Ok(instruction.cost())
             }
         }
+        Ok(instruction.cost())
     }
 }

@@ -1,8 +1,7 @@
 -- The memory after a load.
-use Rattle.std.proofs.Common.{◌≡◌, ℕ, ◌-◌, ◌≤◌, ltb, List, ◌++◌, length, get_or, replicate, Ok, Err, Result, refl, ◌∙◌, ⊎_elim, arith}
+use Rattle.std.proofs.Common.{◌≡◌, ℕ, ◌-◌, ◌≤◌, ltb, List, ◌++◌, length, get_or, replicate, Ok, refl, ◌∙◌, ⊎_elim, arith}
 use Rattle.std.proofs.lemmas.List.{length-append, length-replicate, get_or_append_left, get_or-append_right, get_or-replicate, get_or_past}
 use Rattle.std.proofs.lemmas.Bool.{cases_lt, ltb-false, cond_both}
-use Rattle.machine.specs.declared.Refusal.{Refusal}
 use Rattle.machine.specs.declared.Refusal.TheVariants.{Memory, Image}
 use Rattle.machine.specs.Calls.{Standing, Served, refusing, unfit, accepted, loading}
 use Rattle.laws.specs.Laws.{Holds, Loaded, LoadedMemory}
@@ -16,9 +15,6 @@ holds image n = record {
   image_words = λ i h. get_or_append_left image (replicate n 0) 0 i h;
   zeros_behind = λ i h. get_or-append_right image (replicate n 0) (length image) i 0 refl h ∙ zero_at n (i - length image);
 }
-
-refused_not : {P : Type 0} (e : Refusal) → ◌≡◌ {A = Result Unit Refusal} (Err e) (Ok tt) → P
-refused_not e q = let z : ◌≡◌ {A = ℕ} 0 1 = cc in absurd (omega arith)
 
 -- of two tests that may refuse, neither did
 module _ (image : List ℕ) (s : Standing) where
@@ -34,8 +30,8 @@ module _ (image : List ℕ) (s : Standing) where
 
   pub if_accepted : Owed (loading image s)
   if_accepted =
-      cond_both (unfit (length s.state.memory)) (refusing Memory s) _ Owed (λ _ q. refused_not Memory q)
-      (λ _. cond_both (ltb (length s.state.memory) (length image)) (refusing Image s) (accepted image s) Owed (λ _ q. refused_not Image q) (λ e q. loaded (ltb-false _ (length image) e)))
+      cond_both (unfit (length s.state.memory)) (refusing Memory s) _ Owed (λ _ q. cc)
+      (λ _. cond_both (ltb (length s.state.memory) (length image)) (refusing Image s) (accepted image s) Owed (λ _ q. cc) (λ e q. loaded (ltb-false _ (length image) e)))
 
 pub loads : LoadedMemory
 loads image s q = if_accepted image s q

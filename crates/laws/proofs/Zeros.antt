@@ -1,7 +1,7 @@
 -- Register 0 stays zero.
-use Rattle.std.proofs.Common.{◌≡◌, ℕ, zero, suc, ◌+◌, ◌-◌, ◌<◌, cond, eqb, ltb, List, length, get_or, set, Some, None, Ok, Err, Option, Result, sym, refl, ◌∙◌, subst, ⊎_elim, arith}
+use Rattle.std.proofs.Common.{◌≡◌, ℕ, zero, suc, ◌+◌, cond, eqb, ltb, List, length, get_or, set, Some, None, Ok, Err, Option, Result, sym, refl, ◌∙◌, subst}
 use Rattle.std.proofs.lemmas.List.{get_or-set_other}
-use Rattle.std.proofs.lemmas.Bool.{cond_both, cases_eq, eqb-false}
+use Rattle.std.proofs.lemmas.Bool.{cond_both, eqb-false}
 use Rattle.port.specs.declared.Dry.{Dry}
 use Rattle.port.specs.declared.Full.{Full}
 use Rattle.port.specs.Meaning.{Meaning, taking, sending}
@@ -14,12 +14,11 @@ use Rattle.words.specs.Acts.{Act, go, load, store, take_word, send_word, halt, a
 use Rattle.cpu.specs.States.{State}
 use Rattle.cpu.specs.Steps.{Turn, took, gave, perform, fetched, step_of}
 use Rattle.machine.specs.declared.Refusal.{Refusal}
-use Rattle.machine.specs.Runs.{Ran, goes, run_of}
+use Rattle.machine.specs.Runs.{run_of}
 use Rattle.machine.specs.Calls.{Standing, Served, refusing, counted, sized, running, unfit, accepted, loading}
 use Rattle.machine.specs.declared.Refusal.TheVariants.{Memory, Image, Budget, Count}
-use Rattle.machine.proofs.Going.{goes_none, goes_spent, goes_on, goes_off}
+use Rattle.machine.proofs.Going.{by_answer, run_none, run_on, run_off}
 use Rattle.laws.specs.Laws.{Zero, RegisterZero}
-use Rattle.laws.proofs.Parts.{by_answer}
 
 -- entry 0 is zero
 abbrev Zeroed : List ℕ → Type 0
@@ -33,11 +32,7 @@ zero_written ws r w h =
 -- the registers that an act goes on with
 abbrev ZeroAct : Act → Type 0
 ZeroAct (go rs place) = Zeroed rs
-ZeroAct (load r at) = Unit {0}
-ZeroAct (store at w) = Unit {0}
-ZeroAct (take_word r) = Unit {0}
-ZeroAct (send_word w) = Unit {0}
-ZeroAct halt = Unit {0}
+ZeroAct _ = Unit {0}
 
 zero_act : (i : Instruction) (place : ℕ) (rs : List ℕ) → Zeroed rs → ZeroAct (act i place rs)
 zero_act (Compute f o) place rs h = zero_written rs o.rd _ h
@@ -82,23 +77,13 @@ zero_step s h =
     cond_both s.halted _ _ ZeroTurn (λ _. h)
     (λ _. cond_both (ltb s.place (length s.memory)) _ _ ZeroTurn (λ _. zero_fetched (decoded (get_or s.memory s.place 0)) s h) (λ _. h))
 
-abbrev ZeroRan : Ran → Type 0
-ZeroRan r = Zero r.after
-
-zero_goes : (words left : ℕ) (s : State) → Zero s → ZeroRan (goes words left s)
-zero_goes zero left s h = subst ZeroRan (sym (goes_none left s)) h
-zero_goes (suc words) left s h = ⊎_elim none (λ n. some (λ l. zero_goes words l t (zero_step s h)) (omega arith)) (cases_eq left 0)
-  where
-    t : State
-    t = (step_of s).after
-
-    none : left ≡ 0 → ZeroRan (goes (suc words) left s)
-    none e = subst (λ l. ZeroRan (goes (suc words) l s)) (sym e) (subst ZeroRan (sym (goes_spent (suc words) s)) h)
-
-    some : ((l : ℕ) → ZeroRan (goes words l t)) → 0 < left → ZeroRan (goes (suc words) left s)
-    some later p =
-        by_answer s (λ k e. subst ZeroRan (sym (goes_on words left k s t p refl e)) (later (left - k)))
-        (λ stop e. subst ZeroRan (sym (goes_off words left s t stop p refl e)) (zero_step s h))
+zero_run : (budget : ℕ) (s : State) → Zero s → Zero (run_of budget s).after
+zero_run zero s h = subst (λ r. Zero r.after) (sym (run_none s)) h
+zero_run (suc n) s h =
+    let rest = zero_run n (step_of s).after (zero_step s h) in
+    by_answer s
+    (λ k e. subst (λ r. Zero r.after) (sym (run_on n k s e)) rest)
+    (λ stop e. subst (λ r. Zero r.after) (sym (run_off n s stop e)) h)
 
 abbrev ZeroServed : {A : Type 0} → Served A → Type 0
 ZeroServed v = Zero v.after.state
@@ -116,7 +101,7 @@ zero_running budget s h = by (sized s.size (length s.state.memory))
     by (Err refusal) = h
     by (Ok u) =
         cond_both (ltb 1000000 budget) _ _ ZeroServed (λ _. h)
-        (λ _. cond_both (ltb 100000000 (s.count + budget)) _ _ ZeroServed (λ _. h) (λ _. zero_goes budget budget s.state h))
+        (λ _. cond_both (ltb 100000000 (s.count + budget)) _ _ ZeroServed (λ _. h) (λ _. zero_run budget s.state h))
 
 zero_loading : (image : List ℕ) (s : Standing) → Zero s.state → ZeroServed (loading image s)
 zero_loading image s h =

@@ -1,7 +1,7 @@
 -- What holds of every run and every load. Assumes nothing.
-use Rattle.std.specs.Prelude.{◌≡◌, ℕ, ◌+◌, ◌<◌, ◌≤◌, List, length, Ok, Err, slice_index}
+use Rattle.std.specs.Prelude.{◌≡◌, ℕ, ◌+◌, ◌<◌, ◌≤◌, List, length, Ok, Err, Option, slice_index}
 use Rattle.cpu.specs.declared.Stop.{Stop}
-use Rattle.cpu.specs.declared.Stop.TheVariants.{Spent, Halted, Dry, Full, Outside, Unassigned}
+use Rattle.cpu.specs.declared.Stop.TheVariants.{Spent}
 use Rattle.cpu.specs.States.{State}
 use Rattle.cpu.specs.Steps.{step_of}
 use Rattle.machine.specs.Runs.{Ran, adding, run_of}
@@ -10,11 +10,7 @@ use Rattle.machine.specs.Calls.{Standing, fresh, loading, running}
 -- a spent run goes on with a further budget, and any other run stays as it is
 abbrev pub and_then : ℕ → Stop → Ran → Ran
 and_then budget Spent r = adding r.cycles (run_of budget r.after)
-and_then budget Halted r = r
-and_then budget Dry r = r
-and_then budget Full r = r
-and_then budget Outside r = r
-and_then budget Unassigned r = r
+and_then budget _ r = r
 
 -- a budget of a + b is a budget of a and then one of b
 abbrev pub BudgetInParts : Type 0
@@ -35,7 +31,7 @@ Zero s = slice_index s.registers 0 ≡ 0
 
 -- from a fresh machine on, through words, runs and loads
 pub record RegisterZero : Type 0 where
-  pub at_first : (size : ℕ) (s : Standing) → Zero (fresh size s.state.memory s.state.port).state
+  pub at_first : (size : Option ℕ) (s : Standing) → Zero (fresh size s.state.memory s.state.port).state
   pub after_word : (s : State) → Zero s → Zero (step_of s).after
   pub after_run : (budget : ℕ) (s : Standing) → Zero s.state → Zero (running budget s).after.state
   pub after_load : (image : List ℕ) (s : Standing) → Zero s.state → Zero (loading image s).after.state

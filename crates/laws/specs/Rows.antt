@@ -129,7 +129,7 @@ abbrev loaded : List ℕ
 loaded = count_down_image ++ replicate 58 0
 
 abbrev pub counted_down : Ran
-counted_down = run_of 1000 (fresh 64 loaded (record { waiting = []; sent = []; free = 10 })).state
+counted_down = run_of 1000 (fresh (Some 64) loaded (record { waiting = []; sent = []; free = 10 })).state
 
 pub record CountDown : Type 0 where
   pub stop : counted_down.stop ≡ Halted

@@ -1,5 +1,5 @@
 -- What each call answers, and the machine, memory and port after it. Assumes nothing.
-use Rattle.std.specs.Prelude.{ℕ, ◌+◌, Bool, false, cond, not, ◌||◌, List, length, Ok, Err, Result, ◌==◌, nat_lt, slice_index}
+use Rattle.std.specs.Prelude.{ℕ, ◌+◌, Bool, false, cond, not, ◌||◌, List, length, Some, None, Ok, Err, Option, Result, ◌==◌, nat_lt, slice_index}
 use Rattle.buffers.specs.Buffers.{padded}
 use Rattle.port.specs.Meaning.{Meaning}
 use Rattle.words.specs.Registers.{zeros}
@@ -11,17 +11,17 @@ use Rattle.machine.specs.declared.Refusal.{Refusal}
 use Rattle.machine.specs.declared.Refusal.TheVariants.{Memory, Image, Budget, Count, Address}
 use Rattle.machine.specs.Runs.{Ran, run_of}
 
--- a machine with its memory and port: the size that was loaded, 0 before a first load, and the cycles since
+-- a machine with its memory and port: the size that was loaded, and the cycles since
 pub record Standing : Type 0 where
   pub state : State
-  pub size : ℕ
+  pub size : Option ℕ
   pub count : ℕ
 
 abbrev pub stands : Machine → List ℕ → Meaning → Standing
 stands m memory port = record { state = state m.cpu memory port; size = m.size; count = m.count }
 
 -- registers, place and count zero, not halted, with the size that is loaded
-abbrev pub fresh : ℕ → List ℕ → Meaning → Standing
+abbrev pub fresh : Option ℕ → List ℕ → Meaning → Standing
 fresh size memory port = record {
   state = record { registers = zeros; place = 0; halted = false; memory = memory; port = port };
   size = size;
@@ -30,7 +30,7 @@ fresh size memory port = record {
 
 -- before a first load
 abbrev pub unloaded : List ℕ → Meaning → Standing
-unloaded memory port = fresh 0 memory port
+unloaded memory port = fresh None memory port
 
 -- what a call answers, and what stands after it
 pub record Served (A : Type 0) : Type 0 where
@@ -45,15 +45,16 @@ refusing refusal s = record { answer = Err refusal; after = s }
 abbrev pub unfit : ℕ → Bool
 unfit n = nat_lt n 64 || nat_lt 65536 n
 
--- a later call is given as many words as were loaded
-abbrev pub sized : ℕ → ℕ → Result Unit Refusal
-sized size n = cond (unfit n || not (n == size)) (Err Memory) (Ok tt)
+-- a later call is given as many words as were loaded; before a first load none are right
+abbrev pub sized : Option ℕ → ℕ → Result Unit Refusal
+sized None n = Err Memory
+sized (Some size) n = cond (unfit n || not (n == size)) (Err Memory) (Ok tt)
 
 -- an accepted load: the memory becomes the image and zeros behind it, and the port stays as it is
 abbrev pub accepted : List ℕ → Standing → Served Unit
 accepted image s =
     let n : ℕ = length s.state.memory in
-    record { answer = Ok tt; after = fresh n (padded image n) s.state.port }
+    record { answer = Ok tt; after = fresh (Some n) (padded image n) s.state.port }
 
 -- a load, refused for the memory, then for the image
 abbrev pub loading : List ℕ → Standing → Served Unit

@@ -1,32 +1,41 @@
 // The machine: load, run, look and peek, with the memory and the port beside it.
 #![tactic(auto)]
 
-ghost use Rattle.std.specs.Prelude.{◌≡◌, ℕ, ◌≤◌, List, length, OnErr};
+ghost use Rattle.std.specs.Prelude.{◌≡◌, ℕ, ◌≤◌, List, length, Some, OnErr};
 ghost use Rattle.buffers.specs.Buffers.{padded};
 ghost use Rattle.port.specs.Meaning.{Meaning};
-ghost use Rattle.port.specs.Kinds.{seen};
 ghost use Rattle.cpu.specs.States.{state};
+ghost use Rattle.machine.specs.declared.TheConstants.{FEWEST_WORDS, MOST_WORDS, MOST_CYCLES};
 ghost use Rattle.machine.specs.Refusals.{refusal_number};
 ghost use Rattle.machine.specs.Runs.{run_of, ran_as};
-ghost use Rattle.machine.specs.Calls.{stands, unloaded, sized, loading, running, looking, shown, peeking};
 
 use cpu::{Cpu, Stop};
 use port::Port;
 use words::RegisterFile;
 
+// The lengths that a memory may have.
+const FEWEST_WORDS: usize = 64;
+
+const MOST_WORDS: usize = 65_536;
+
+// The cycles that one run may be given, and those that all runs since a load may do together.
+const MOST_BUDGET: u32 = 1_000_000;
+
+const MOST_CYCLES: u32 = 100_000_000;
+
 /// Why a call was refused. Each refusal leaves machine, memory and port as they were.
 #[derive(Clone, Copy, PartialEq, Eq)]
 pub enum Refusal {
     /// The memory has fewer than 64 or more than 65,536 words, or not as many as were loaded.
-    Memory,
+    Memory = 4,
     /// The image is longer than the memory.
-    Image,
+    Image = 5,
     /// The budget is above 1,000,000 cycles.
-    Budget,
+    Budget = 8,
     /// The count and the budget are together above 100,000,000 cycles.
-    Count,
+    Count = 9,
     /// The address is not below the memory's length.
-    Address,
+    Address = 20,
 }
 
 /// How a run ended, and the cycles done.
@@ -46,10 +55,12 @@ pub struct Look {
 
 #[derive(Clone, Copy)]
 pub struct Machine {
-    // The words of the loaded memory, 0 before a first load.
-    size: usize,
+    // The length of the loaded memory.
+    size: Option<usize>,
     count: u32,
     cpu: Cpu,
+    ghost fits: { (words : ℕ) → size ≡ Some words → (FEWEST_WORDS ≤ words) × (words ≤ MOST_WORDS) },
+    ghost within: { count ≤ MOST_CYCLES },
 }
 
 impl Refusal {
@@ -57,13 +68,7 @@ impl Refusal {
     pub fn number(self) -> u8
         ensures { result ≡ refusal_number self }
     {
-        match self {
-            Refusal::Memory => 4,
-            Refusal::Image => 5,
-            Refusal::Budget => 8,
-            Refusal::Count => 9,
-            Refusal::Address => 20,
-        }
+        self as u8
     }
 }
 
@@ -72,15 +77,15 @@ fn lay(image: &[u16], memory: &mut [u16])
     requires { length image.now ≤ length memory.old }
     ensures { memory.new ≡ padded image.now (length memory.old) }
 {
-    let count = image.len();
-    memory.fill(0);
-    memory[0..count].copy_from_slice(image);
+    let (front, rest) = memory.split_at_mut(image.len());
+    front.copy_from_slice(image);
+    rest.fill(0);
 }
 
 // Does words until the budget is done or a stop comes.
 fn work<P: Port>(cpu: &mut Cpu, budget: u32, memory: &mut [u16], port: &mut P) -> Report
-    requires { budget ≤ 1000000 }
-    ensures answer { ran_as result (state cpu.new memory.new (seen P.Port port.new)) ≡ run_of budget (state cpu.old memory.old (seen P.Port port.old)) }
+    requires { budget ≤ MOST_BUDGET }
+    ensures answer { ran_as result (state cpu.new memory.new (P.meaning port.new)) ≡ run_of budget (state cpu.old memory.old (P.meaning port.old)) }
     ensures bound { result.cycles ≤ budget }
 {
     let mut cycles = 0;
@@ -99,22 +104,24 @@ fn work<P: Port>(cpu: &mut Cpu, budget: u32, memory: &mut [u16], port: &mut P) -
 }
 
 impl Machine {
+    ghost use Rattle.machine.specs.Calls.{stands, unloaded, sized, loading, running, looking, shown, peeking};
+
     /// A machine before its first load.
     pub fn new() -> Machine
         ensures { (memory : List ℕ) (port : Meaning) → stands result memory port ≡ unloaded memory port }
     {
         Machine {
-            size: 0,
+            size: None,
             count: 0,
             cpu: Cpu::new(),
         }
     }
 
-    // Refuses a memory of a length that is not allowed, or not the loaded one.
+    // Refuses a memory that has not as many words as were loaded.
     fn expect(&self, memory: &[u16]) -> Result<(), Refusal>
         ensures { result ≡ sized self.now.size (length memory.now) }
     {
-        if memory.len() < 64 || memory.len() > 65536 || memory.len() != self.size {
+        if self.size != Some(memory.len()) {
             return Err(Refusal::Memory);
         }
         Ok(())
@@ -126,7 +133,7 @@ impl Machine {
         ensures answer { (port : Meaning) → result ≡ (loading image.now (stands self.old memory.old port)).answer }
         ensures kept { OnErr result ((self.new ≡ self.old) × (memory.new ≡ memory.old)) }
     {
-        if memory.len() < 64 || memory.len() > 65536 {
+        if !(FEWEST_WORDS..=MOST_WORDS).contains(&memory.len()) {
             return Err(Refusal::Memory);
         }
         if image.len() > memory.len() {
@@ -134,7 +141,7 @@ impl Machine {
         }
         lay(image, memory);
         self.cpu = Cpu::new();
-        self.size = memory.len();
+        self.size = Some(memory.len());
         self.count = 0;
         Ok(())
     }
@@ -146,15 +153,15 @@ impl Machine {
         memory: &mut [u16],
         port: &mut P,
     ) -> Result<Report, Refusal>
-        ensures after { stands self.new memory.new (seen P.Port port.new) ≡ (running budget (stands self.old memory.old (seen P.Port port.old))).after }
-        ensures answer { result ≡ (running budget (stands self.old memory.old (seen P.Port port.old))).answer }
+        ensures after { stands self.new memory.new (P.meaning port.new) ≡ (running budget (stands self.old memory.old (P.meaning port.old))).after }
+        ensures answer { result ≡ (running budget (stands self.old memory.old (P.meaning port.old))).answer }
         ensures kept { OnErr result ((self.new ≡ self.old) × (memory.new ≡ memory.old) × (port.new ≡ port.old)) }
     {
         self.expect(memory)?;
-        if budget > 1_000_000 {
+        if budget > MOST_BUDGET {
             return Err(Refusal::Budget);
         }
-        if u64::from(self.count) + u64::from(budget) > 100_000_000 {
+        if self.count + budget > MOST_CYCLES {
             return Err(Refusal::Count);
         }
         let report = work(&mut self.cpu, budget, memory, port);
@@ -179,9 +186,6 @@ impl Machine {
         ensures { (port : Meaning) → result ≡ peeking at (stands self.now memory.now port) }
     {
         self.expect(memory)?;
-        if at >= memory.len() {
-            return Err(Refusal::Address);
-        }
-        Ok(memory[at])
+        memory.get(at).copied().ok_or(Refusal::Address)
     }
 }

@@ -1,3 +1,1 @@
-pub mod Lists
 pub mod Masks
-pub mod Moves

@@ -1,4 +1,3 @@
-pub mod Kinds
 pub mod Laws
 pub mod Meaning
 pub mod Polarity

@@ -10,10 +10,6 @@ pub record Meaning : Type 0 where
   pub sent : List ℕ
   pub free : ℕ
 
--- the meaning of a port by its three ghost members
-abbrev pub meaning : {X : Type 0} → (X → List ℕ) → (X → List ℕ) → (X → ℕ) → X → Meaning
-meaning waiting sent free port = record { waiting = waiting port; sent = sent port; free = free port }
-
 -- what taking answers, and the meaning it leaves
 pub record Taken : Type 0 where
   pub answer : Result ℕ Dry

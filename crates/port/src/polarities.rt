@@ -2,7 +2,6 @@
 ghost use Rattle.std.specs.Prelude.{◌≡◌};
 ghost use Rattle.port.specs.Meaning.{taking, sending, masked};
 ghost use Rattle.port.specs.Laws.{PolarityLaws};
-ghost use Rattle.port.specs.Kinds.{seen};
 ghost use Rattle.port.specs.Polarity.{through};
 
 use crate::{Dry, Full, Port};
@@ -19,7 +18,7 @@ impl<P: Port> Polarity<P> {
     pub fn new(below: P, mask: u16) -> Polarity<P>
         ensures below { result.below ≡ below }
         ensures mask { result.mask ≡ mask }
-        ensures means { through P.Port result ≡ masked mask (seen P.Port below) }
+        ensures means { through P.meaning result ≡ masked mask (P.meaning below) }
     {
         Polarity { below, mask }
     }
@@ -41,11 +40,7 @@ impl<P: Port> Polarity<P> {
 }
 
 impl<P: Port> Port for Polarity<P> {
-    ghost waiting = { λ s. (through P.Port s).waiting };
-
-    ghost sent = { λ s. (through P.Port s).sent };
-
-    ghost free = { λ s. (through P.Port s).free };
+    ghost meaning = { through P.meaning };
 
     fn count_waiting(&self) -> usize {
         self.below.count_waiting()
@@ -56,8 +51,8 @@ impl<P: Port> Port for Polarity<P> {
     }
 
     fn take(&mut self) -> Result<u16, Dry>
-        ensures answer { result ≡ (taking (through P.Port self.old)).answer }
-        ensures after { through P.Port self.new ≡ (taking (through P.Port self.old)).after }
+        ensures answer { result ≡ (taking (through P.meaning self.old)).answer }
+        ensures after { through P.meaning self.new ≡ (taking (through P.meaning self.old)).after }
         ensures mask { self.new.mask ≡ self.old.mask }
     {
         let word = self.below.take()?;
@@ -65,8 +60,8 @@ impl<P: Port> Port for Polarity<P> {
     }
 
     fn send(&mut self, word: u16) -> Result<(), Full>
-        ensures answer { result ≡ (sending (through P.Port self.old) word).answer }
-        ensures after { through P.Port self.new ≡ (sending (through P.Port self.old) word).after }
+        ensures answer { result ≡ (sending (through P.meaning self.old) word).answer }
+        ensures after { through P.meaning self.new ≡ (sending (through P.meaning self.old) word).after }
         ensures mask { self.new.mask ≡ self.old.mask }
     {
         self.below.send(word)

@@ -1,20 +1,22 @@
 // A tape: a port over a lent list of words to read and a lent buffer for the words sent.
-ghost use Rattle.std.specs.Prelude.{◌≡◌};
-ghost use Rattle.port.specs.Meaning.{taking, sending};
-ghost use Rattle.port.specs.Tape.{held, means, unused, fresh, reading, writing};
+ghost use Rattle.std.specs.Prelude.{◌≡◌, ◌≤◌, length};
 
 use crate::{Dry, Full, Port};
 
 /// A list of words to read, and a buffer for the words sent.
 #[derive(Drop)]
 pub struct Tape<'i, 'o> {
+    // The words not read yet.
     input: &'i [u16],
-    at: usize,
     output: &'o mut [u16],
+    // How many places of the output are written.
     count: usize,
+    ghost within: { count ≤ length output.now },
 }
 
 impl<'i, 'o> Tape<'i, 'o> {
+    ghost use Rattle.port.specs.Tape.{held, means, unused, fresh};
+
     /// Every word of `input` waits, and every place of `output` is free.
     pub fn new(input: &'i [u16], output: &'o mut [u16]) -> Tape<'i, 'o>
         ensures holds { held result ≡ unused input.now output.old }
@@ -22,7 +24,6 @@ impl<'i, 'o> Tape<'i, 'o> {
     {
         Tape {
             input,
-            at: 0,
             output,
             count: 0,
         }
@@ -32,25 +33,22 @@ impl<'i, 'o> Tape<'i, 'o> {
     pub fn sent(&self) -> &[u16]
         ensures { result.now ≡ (means (held self.now)).sent }
     {
-        // No fact bounds the count, so the cut does.
-        let end = self.count.min(self.output.len());
-        &self.output[0..end]
+        &self.output[..self.count]
     }
 }
 
 impl<'i, 'o> Port for Tape<'i, 'o> {
-    ghost waiting = { λ s. (means (held s)).waiting };
+    ghost use Rattle.port.specs.Meaning.{taking, sending};
+    ghost use Rattle.port.specs.Tape.{held, means, reading, writing};
 
-    ghost sent = { λ s. (means (held s)).sent };
-
-    ghost free = { λ s. (means (held s)).free };
+    ghost meaning = { λ s. means (held s) };
 
     fn count_waiting(&self) -> usize {
-        self.input.len().saturating_sub(self.at)
+        self.input.len()
     }
 
     fn count_free(&self) -> usize {
-        self.output.len().saturating_sub(self.count)
+        self.output.len() - self.count
     }
 
     fn take(&mut self) -> Result<u16, Dry>
@@ -58,12 +56,9 @@ impl<'i, 'o> Port for Tape<'i, 'o> {
         ensures after { means (held self.new) ≡ (taking (means (held self.old))).after }
         ensures tape { held self.new ≡ reading (held self.old) }
     {
-        if self.at >= self.input.len() {
-            return Err(Dry);
-        }
-        let word = self.input[self.at];
-        self.at += 1;
-        Ok(word)
+        let (word, rest) = self.input.split_first().ok_or(Dry)?;
+        self.input = rest;
+        Ok(*word)
     }
 
     fn send(&mut self, word: u16) -> Result<(), Full>
@@ -71,7 +66,7 @@ impl<'i, 'o> Port for Tape<'i, 'o> {
         ensures after { means (held self.new) ≡ (sending (means (held self.old)) word).after }
         ensures tape { held self.new ≡ writing (held self.old) word }
     {
-        if self.count >= self.output.len() {
+        if self.count == self.output.len() {
             return Err(Full);
         }
         self.output[self.count] = word;

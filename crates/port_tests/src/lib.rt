@@ -3,26 +3,26 @@
 
 #[cfg(test)]
 mod tests {
-    use port::{Polarity, Port, Tape};
+    use port::{Dry, Full, Polarity, Port, Tape};
 
     #[test]
     fn tape_is_read_in_order_then_dry(rt: HostRuntime) {
         let mut out = [0; 1];
         let mut tape = Tape::new(&[7, 0, 0xffff], &mut out);
-        assert_eq!(rt; tape.take().ok(), Some(7));
-        assert_eq!(rt; tape.take().ok(), Some(0));
-        assert_eq!(rt; tape.take().ok(), Some(0xffff));
-        assert_eq!(rt; tape.take().ok(), None);
-        assert_eq!(rt; tape.take().ok(), None);
+        assert_eq!(rt; tape.take(), Ok(7));
+        assert_eq!(rt; tape.take(), Ok(0));
+        assert_eq!(rt; tape.take(), Ok(0xffff));
+        assert_eq!(rt; tape.take(), Err(Dry));
+        assert_eq!(rt; tape.take(), Err(Dry));
     }
 
     #[test]
     fn tape_is_sent_to_until_full(rt: HostRuntime) {
         let mut out = [0; 2];
         let mut tape = Tape::new(&[], &mut out);
-        assert!(rt; tape.send(5).is_ok());
-        assert!(rt; tape.send(6).is_ok());
-        assert!(rt; tape.send(7).is_err());
+        assert_eq!(rt; tape.send(5), Ok(()));
+        assert_eq!(rt; tape.send(6), Ok(()));
+        assert_eq!(rt; tape.send(7), Err(Full));
         assert!(rt; tape.sent() == [5, 6].as_slice());
     }
 
@@ -32,10 +32,10 @@ mod tests {
         let mut tape = Tape::new(&[1, 2], &mut out);
         assert_eq!(rt; tape.count_waiting(), 2);
         assert_eq!(rt; tape.count_free(), 3);
-        assert_eq!(rt; tape.take().ok(), Some(1));
+        assert_eq!(rt; tape.take(), Ok(1));
         assert_eq!(rt; tape.count_waiting(), 1);
         assert_eq!(rt; tape.count_free(), 3);
-        assert!(rt; tape.send(9).is_ok());
+        assert_eq!(rt; tape.send(9), Ok(()));
         assert_eq!(rt; tape.count_waiting(), 1);
         assert_eq!(rt; tape.count_free(), 2);
     }
@@ -44,8 +44,8 @@ mod tests {
     fn buffer_behind_stays_as_it_was(rt: HostRuntime) {
         let mut out = [11, 12, 13];
         let mut tape = Tape::new(&[1], &mut out);
-        assert_eq!(rt; tape.take().ok(), Some(1));
-        assert!(rt; tape.send(5).is_ok());
+        assert_eq!(rt; tape.take(), Ok(1));
+        assert_eq!(rt; tape.send(5), Ok(()));
         assert!(rt; tape.sent() == [5].as_slice());
         assert!(rt; out == [5, 12, 13]);
     }
@@ -54,10 +54,10 @@ mod tests {
     fn refusals_alter_nothing(rt: HostRuntime) {
         let mut out = [11];
         let mut tape = Tape::new(&[], &mut out);
-        assert_eq!(rt; tape.take().ok(), None);
+        assert_eq!(rt; tape.take(), Err(Dry));
         assert_eq!(rt; tape.count_free(), 1);
-        assert!(rt; tape.send(5).is_ok());
-        assert!(rt; tape.send(6).is_err());
+        assert_eq!(rt; tape.send(5), Ok(()));
+        assert_eq!(rt; tape.send(6), Err(Full));
         assert_eq!(rt; tape.count_waiting(), 0);
         assert!(rt; tape.sent() == [5].as_slice());
         assert!(rt; out == [5]);
@@ -68,8 +68,8 @@ mod tests {
         let mut tape = Tape::new(&[], &mut []);
         assert_eq!(rt; tape.count_waiting(), 0);
         assert_eq!(rt; tape.count_free(), 0);
-        assert_eq!(rt; tape.take().ok(), None);
-        assert!(rt; tape.send(1).is_err());
+        assert_eq!(rt; tape.take(), Err(Dry));
+        assert_eq!(rt; tape.send(1), Err(Full));
         assert!(rt; tape.sent() == [].as_slice());
     }
 
@@ -79,10 +79,10 @@ mod tests {
         let mut out = [0; 2];
         let mut port = Polarity::new(Tape::new(&[0x00ff, 0], &mut out), 0x0f0f);
         assert_eq!(rt; port.count_waiting(), 2);
-        assert_eq!(rt; port.take().ok(), Some(0x0ff0));
-        assert_eq!(rt; port.take().ok(), Some(0x0f0f));
-        assert_eq!(rt; port.take().ok(), None);
-        assert!(rt; port.send(0x00ff).is_ok());
+        assert_eq!(rt; port.take(), Ok(0x0ff0));
+        assert_eq!(rt; port.take(), Ok(0x0f0f));
+        assert_eq!(rt; port.take(), Err(Dry));
+        assert_eq!(rt; port.send(0x00ff), Ok(()));
         assert_eq!(rt; port.count_free(), 1);
         assert!(rt; port.below().sent() == [0x00ff].as_slice());
     }
@@ -95,11 +95,11 @@ mod tests {
             Polarity::new(Tape::new(&[0x1234, 0x1234], &mut out), 0xff00),
             0x0ff0,
         );
-        assert_eq!(rt; port.take().ok(), Some(0xe2c4));
-        assert!(rt; port.send(3).is_ok());
-        assert!(rt; port.send(4).is_err());
+        assert_eq!(rt; port.take(), Ok(0xe2c4));
+        assert_eq!(rt; port.send(3), Ok(()));
+        assert_eq!(rt; port.send(4), Err(Full));
         let mut below = port.into_below();
-        assert_eq!(rt; below.take().ok(), Some(0xed34));
+        assert_eq!(rt; below.take(), Ok(0xed34));
         assert!(rt; below.into_below().sent() == [3].as_slice());
     }
 
@@ -110,6 +110,6 @@ mod tests {
             Polarity::new(Tape::new(&[0xabcd], &mut out), 0xffff),
             0xffff,
         );
-        assert_eq!(rt; port.take().ok(), Some(0xabcd));
+        assert_eq!(rt; port.take(), Ok(0xabcd));
     }
 }

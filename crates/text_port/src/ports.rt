@@ -80,11 +80,7 @@ impl<'i, 'o> TextPort<'i, 'o> {
 }
 
 impl<'i, 'o> Port for TextPort<'i, 'o> {
-    ghost waiting = { λ s. (means (held s)).waiting };
-
-    ghost sent = { λ s. (means (held s)).sent };
-
-    ghost free = { λ s. (means (held s)).free };
+    ghost meaning = { λ s. means (held s) };
 
     fn count_waiting(&self) -> usize {
         count_words(self.rest)

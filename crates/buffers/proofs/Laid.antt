@@ -65,6 +65,10 @@ overlaid_blank text n = ap (λ k. overlaid (blank k) 0 text) (sym (sub-zero n)) 
 pub length_padded : (front : List ℕ) (n : ℕ) → length front ≤ n → length (padded front n) ≡ n
 length_padded front n h = simp (length-append, length-replicate) (omega arith)
 
+-- a list over the front of zeros
+pub padded_over : (front : List ℕ) (n count : ℕ) → count ≡ length front → front ++ drop count (blank n) ≡ padded front n
+padded_over front n count long = ap (λ rest. front ++ rest) (drop-replicate count n 0) ∙ ap (λ k. front ++ blank (n - k)) long
+
 -- the list stands at the front
 pub take_padded : (front : List ℕ) (n : ℕ) → take (length front) (padded front n) ≡ front
 take_padded front n = take_at front _ _ refl

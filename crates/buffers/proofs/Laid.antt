@@ -1,22 +1,9 @@
 -- Texts in buffers: one behind another, and zeros behind the last.
-use Rattle.std.proofs.Common.{◌≡◌, ℕ, ◌+◌, ◌-◌, ◌<◌, ◌≤◌, List, [], ◌++◌, length, take, drop, Some, None, sym, refl, ap, ◌∙◌, arith}
+use Rattle.std.proofs.Common.{◌≡◌, ℕ, ◌+◌, ◌-◌, ◌≤◌, List, [], ◌++◌, length, take, drop, sym, refl, ap, ◌∙◌, arith}
 use native.Mathlib.Nat.{sub-zero}
 use borrow.Rule.Slice.PartMut.{put_mid}
 use Rattle.std.proofs.lemmas.List.{append_assoc, length-append, length-take-le, length-drop, length-replicate, take_at, drop_at, drop-drop, drop-replicate}
-use Rattle.std.proofs.lemmas.Bool.{le-ltb, lt-ltb, cond-true, cond-false}
-use Rattle.buffers.specs.Buffers.{blank, padded, overlaid, appending}
-
--- appending where the text fits
-pub appending_fits : (text : List ℕ) (at : ℕ) (buffer : List ℕ)
-    → at + length text ≤ length buffer
-    → appending text at buffer ≡ record { answer = Some (at + length text); after = overlaid buffer at text }
-appending_fits text at buffer h = cond-false _ _ _ (le-ltb _ _ h)
-
--- appending where it does not
-pub appending_short : (text : List ℕ) (at : ℕ) (buffer : List ℕ)
-    → length buffer < at + length text
-    → appending text at buffer ≡ record { answer = None; after = buffer }
-appending_short text at buffer h = cond-true _ _ _ (lt-ltb _ _ h)
+use Rattle.buffers.specs.Buffers.{blank, padded, overlaid}
 
 -- a copy into a part of a buffer, as the checker has it
 pub overlaid_from_copy : (at size : ℕ) (buffer part text : List ℕ)
@@ -78,26 +65,10 @@ overlaid_blank text n = ap (λ k. overlaid (blank k) 0 text) (sym (sub-zero n)) 
 pub length_padded : (front : List ℕ) (n : ℕ) → length front ≤ n → length (padded front n) ≡ n
 length_padded front n h = simp (length-append, length-replicate) (omega arith)
 
+-- a list over the front of zeros
+pub padded_over : (front : List ℕ) (n count : ℕ) → count ≡ length front → front ++ drop count (blank n) ≡ padded front n
+padded_over front n count long = ap (λ rest. front ++ rest) (drop-replicate count n 0) ∙ ap (λ k. front ++ blank (n - k)) long
+
 -- the list stands at the front
 pub take_padded : (front : List ℕ) (n : ℕ) → take (length front) (padded front n) ≡ front
 take_padded front n = take_at front _ _ refl
-
--- appending to a front with zeros behind it, where the text fits
-pub appending_padded : (front text : List ℕ) (n : ℕ)
-    → length (front ++ text) ≤ n
-    → appending text (length front) (padded front n)
-    ≡ record { answer = Some (length (front ++ text)); after = padded (front ++ text) n }
-appending_padded front text n room =
-    let end : length front + length text ≡ length (front ++ text) = sym (length-append front text) in
-    let long : length (padded front n) ≡ n = length_padded front n (omega arith) in
-    appending_fits text (length front) (padded front n) (omega arith)
-    ∙ ap (λ k. record { answer = Some k; after = overlaid (padded front n) (length front) text }) end
-    ∙ ap (λ buffer. record { answer = Some (length (front ++ text)); after = buffer }) (overlaid_padded front text n)
-
--- and where it does not
-pub appending_padded_short : (front text : List ℕ) (n : ℕ)
-    → length front ≤ n
-    → n < length (front ++ text)
-    → appending text (length front) (padded front n) ≡ record { answer = None; after = padded front n }
-appending_padded_short front text n room over =
-    appending_short text (length front) (padded front n) (omega (arith, length-append front text, length_padded front n room))

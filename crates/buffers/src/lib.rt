@@ -1,18 +1,61 @@
-// Lent buffers: a text written at a place of one, if it fits there.
+// Lent buffers: texts put one behind another at the front of one, as far as they fit.
 #![tactic(auto)]
 
-ghost use Rattle.std.specs.Prelude.{◌≡◌};
-ghost use Rattle.buffers.specs.Buffers.{appending};
+ghost use Rattle.std.specs.Prelude.{◌≡◌, ◌≤◌, length};
+ghost use Rattle.buffers.specs.Refusals.{short_number};
 
-/// Writes `text` at the place `at`, and answers the place behind it; where it does not fit, writes nothing.
-pub fn append(text: &[u8], at: usize, out: &mut [u8]) -> Option<usize>
-    ensures answer { result ≡ (appending text.now at out.old).answer }
-    ensures after { out.new ≡ (appending text.now at out.old).after }
-{
-    if at > out.len() || text.len() > out.len() - at {
-        return None;
+/// The buffer has no room for the text.
+#[derive(Clone, Copy, PartialEq, Eq, Debug)]
+pub struct Short;
+
+impl Short {
+    /// The refusal's number, as printed.
+    pub fn number(self) -> u8
+        ensures { result ≡ short_number self }
+    {
+        6
     }
-    let end = at + text.len();
-    out[at..end].copy_from_slice(text);
-    Some(end)
+}
+
+/// A lent buffer, and how many bytes of text stand at its front.
+// No `fmt::Write`: its contract says nothing of an `Err`, and here it is said exactly when a text does not fit.
+#[derive(Drop)]
+pub struct Page<'a> {
+    buffer: &'a mut [u8],
+    len: usize,
+    ghost within: { len ≤ length buffer.now },
+}
+
+impl<'a> Page<'a> {
+    ghost use Rattle.buffers.specs.Pages.{held, text_of, unwritten, appending};
+
+    /// A page with no text; the buffer stays as it is.
+    pub fn new(buffer: &'a mut [u8]) -> Page<'a>
+        ensures buffer { result.buffer.ghost_name ≡ buffer.entry.ghost_name }
+        ensures holds { held result ≡ unwritten buffer.old }
+    {
+        Page { buffer, len: 0 }
+    }
+
+    /// The text.
+    pub fn text(&self) -> &[u8]
+        ensures { result.now ≡ text_of (held self.now) }
+    {
+        &self.buffer[..self.len]
+    }
+
+    /// Writes `text` behind the text; where it does not fit, writes nothing.
+    pub fn append(&mut self, text: &[u8]) -> Result<(), Short>
+        ensures buffer { self.new.buffer.ghost_name ≡ self.old.buffer.ghost_name }
+        ensures answer { result ≡ (appending text.now (held self.old)).answer }
+        ensures after { held self.new ≡ (appending text.now (held self.old)).after }
+    {
+        if text.len() > self.buffer.len() - self.len {
+            return Err(Short);
+        }
+        let end = self.len + text.len();
+        self.buffer[self.len..end].copy_from_slice(text);
+        self.len = end;
+        Ok(())
+    }
 }

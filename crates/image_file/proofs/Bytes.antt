@@ -1,8 +1,9 @@
 -- Words as bytes and bytes as words: each undoes the other, and the step of a loop over either.
-use Rattle.std.proofs.Common.{◌≡◌, ℕ, ◌+◌, ◌*◌, ◌/◌, ◌%◌, ◌<◌, ◌≤◌, List, [], ◌∷◌, ◌++◌, length, get_or, take, drop, set, sym, refl, ap, ◌∙◌, arith}
+use Rattle.std.proofs.Common.{◌≡◌, ℕ, suc, map, ◌+◌, ◌*◌, ◌/◌, ◌%◌, ◌<◌, ◌≤◌, List, [], ◌∷◌, ◌++◌, length, get_or, take, drop, set, sym, refl, ap, ◌∙◌, arith}
+use Rattle.std.specs.Simd.{first_chunks}
 use Rattle.std.specs.List.{AllByRecursion}
-use Rattle.std.proofs.lemmas.List.{append_assoc, append-nil, at_drop_more, take_more_set, drop_more, take_all, drop_all, length-set}
-use Rattle.image_file.specs.Bytes.{bytes_of, words_of}
+use Rattle.std.proofs.lemmas.List.{append_assoc, append-nil, at_drop_more, take_more_set, take_all, drop_all, length-set}
+use Rattle.image_file.specs.Bytes.{bytes_of, words_of, word_of}
 use Rattle.image_file.specs.Laws.{ByteLaws}
 
 words_back : (words : List ℕ) → words_of (bytes_of words) ≡ words
@@ -65,33 +66,10 @@ written_all words bytes i past long so_far =
     ∙ ap (λ more. take (2 * i) bytes ++ bytes_of more) (sym (drop_all i words past))
     ∙ so_far
 
--- one more word read
-pub read_more : (bytes words : List ℕ) (i word : ℕ)
-    → i < length words
-    → 2 * i + 1 < length bytes
-    → word ≡ get_or bytes (2 * i) 0 * 256 + get_or bytes (2 * i + 1) 0
-    → take i words ++ words_of (drop (2 * i) bytes) ≡ words_of bytes
-    → take (i + 1) (set words i word) ++ words_of (drop (2 * (i + 1)) bytes) ≡ words_of bytes
-read_more bytes words i word within room is so_far =
-    let high : ℕ = get_or bytes (2 * i) 0 in
-    let rest : List ℕ = drop (2 * i + 1 + 1) bytes in
-    let two : 2 * (i + 1) ≡ 2 * i + 1 + 1 = omega arith in
-    ap (λ front. front ++ words_of (drop (2 * (i + 1)) bytes)) (take_more_set words i word within)
-    ∙ ap (λ k. (take i words ++ word ∷ []) ++ words_of (drop k bytes)) two
-    ∙ (simp append_assoc)
-    ∙ ap (λ w. take i words ++ w ∷ words_of rest) is
-    ∙ ap (λ more. take i words ++ words_of (high ∷ more)) (sym (drop_more bytes (2 * i + 1) 0 room))
-    ∙ ap (λ more. take i words ++ words_of more) (sym (drop_more bytes (2 * i) 0 (omega arith)))
-    ∙ so_far
-
--- every word read
-pub read_all : (bytes words : List ℕ) (i : ℕ)
-    → length words ≤ i
-    → length bytes ≡ 2 * length words
-    → take i words ++ words_of (drop (2 * i) bytes) ≡ words_of bytes
-    → words ≡ words_of bytes
-read_all bytes words i past long so_far =
-    sym (append-nil words)
-    ∙ ap (λ front. front ++ []) (sym (take_all i words past))
-    ∙ ap (λ more. take i words ++ words_of more) (sym (drop_all (2 * i) bytes (omega arith)))
-    ∙ so_far
+-- the words are those of the bytes in twos
+pub words_of_pairs : (bytes : List ℕ) → words_of bytes ≡ map word_of (first_chunks 2 (length bytes / 2) bytes)
+words_of_pairs [] = refl
+words_of_pairs (high ∷ []) = refl
+words_of_pairs (high ∷ low ∷ bytes) =
+    let half : suc (suc (length bytes)) / 2 ≡ suc (length bytes / 2) = omega arith in
+    ap (λ words. (high * 256 + low) ∷ words) (words_of_pairs bytes) ∙ ap (λ k. map word_of (first_chunks 2 k (high ∷ low ∷ bytes))) (sym half)

@@ -70,10 +70,7 @@ accepted_writing image n end out few ends room is =
     )
 
 -- a file that is read
-module _ (bytes rest : List ℕ) (n count : ℕ) (headed : bytes ≡ head ++ rest) (odd : length bytes % 2 ≡ 0 → ⊥) (half : count ≡ length rest / 2) where
-  even : length rest % 2 ≡ 0
-  even = omega (arith, odd, ap length headed)
-
+module _ (bytes rest : List ℕ) (n count : ℕ) (headed : bytes ≡ head ++ rest) (even : length rest % 2 ≡ 0) (half : count ≡ length rest / 2) where
   counted : count ≡ length (words_of rest)
   counted = half ∙ sym (length_words_of rest)
 

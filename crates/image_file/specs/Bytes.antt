@@ -1,5 +1,5 @@
 -- Words as bytes and bytes as words, the high byte first. Assumes nothing.
-use Rattle.std.specs.Prelude.{ℕ, ◌+◌, ◌*◌, ◌/◌, ◌%◌, List, [], ◌∷◌}
+use Rattle.std.specs.Prelude.{ℕ, ◌+◌, ◌*◌, ◌/◌, ◌%◌, List, [], ◌∷◌, slice_index}
 
 -- the high byte of each word, then its low byte
 abbrev pub bytes_of : List ℕ → List ℕ
@@ -11,3 +11,7 @@ abbrev pub words_of : List ℕ → List ℕ
 words_of [] = []
 words_of (high ∷ []) = []
 words_of (high ∷ low ∷ bytes) = (high * 256 + low) ∷ words_of bytes
+
+-- the word of two bytes
+abbrev pub word_of : List ℕ → ℕ
+word_of pair = slice_index pair 0 * 256 + slice_index pair 1

@@ -1,8 +1,8 @@
 // The file form of an image: a mark, a version and the words, each high byte first.
 #![tactic(auto)]
 
-ghost use Rattle.std.specs.Prelude.{◌≡◌, ◌*◌, length, take, IfOk};
-ghost use Rattle.image_file.specs.Bytes.{bytes_of, words_of};
+ghost use Rattle.std.specs.Prelude.{◌≡◌, ◌*◌, length, map, take, IfOk};
+ghost use Rattle.image_file.specs.Bytes.{bytes_of, word_of};
 ghost use Rattle.image_file.specs.Calls.{writing, reading};
 ghost use Rattle.image_file.specs.Laws.{ByteLaws, ReadsBack, WrittenBy};
 ghost use Rattle.image_file.specs.Refusals.{refusal_number};
@@ -16,13 +16,13 @@ const MOST_WORDS: usize = 65_536;
 #[derive(Clone, Copy, PartialEq, Eq, Debug)]
 pub enum Refusal {
     /// The file has more words than the buffer holds, or more than 65,536.
-    Words,
+    Words = 3,
     /// The image has more than 65,536 words.
-    Image,
+    Image = 5,
     /// The output is shorter than the file.
-    Output,
+    Output = 6,
     /// The mark or the version is wrong or missing, or the file's length is even.
-    Mark,
+    Mark = 7,
 }
 
 impl Refusal {
@@ -30,16 +30,11 @@ impl Refusal {
     pub fn number(self) -> u8
         ensures { result ≡ refusal_number self }
     {
-        match self {
-            Refusal::Words => 3,
-            Refusal::Image => 5,
-            Refusal::Output => 6,
-            Refusal::Mark => 7,
-        }
+        self as u8
     }
 }
 
-// Writes the bytes of each word.
+// Writes the bytes of each word, by their places: of what `chunks_exact_mut` lends, no contract says how it ends.
 fn write_words(words: &[u16], bytes: &mut [u8])
     requires { length bytes.old ≡ 2 * length words.now }
     ensures { bytes.new ≡ bytes_of words.now }
@@ -52,12 +47,12 @@ fn write_words(words: &[u16], bytes: &mut [u8])
 }
 
 // Reads the word of each two bytes.
-fn read_words(bytes: &[u8], words: &mut [u16])
-    requires { length bytes.now ≡ 2 * length words.old }
-    ensures { words.new ≡ words_of bytes.now }
+fn read_words(pairs: &[[u8; 2]], words: &mut [u16])
+    requires { length pairs.now ≡ length words.old }
+    ensures { words.new ≡ map word_of pairs.now }
 {
-    for i in 0..words.len() {
-        words[i] = u16::from_be_bytes([bytes[2 * i], bytes[2 * i + 1]]);
+    for (i, pair) in pairs.iter().enumerate() {
+        words[i] = u16::from_be_bytes(*pair);
     }
 }
 
@@ -75,7 +70,7 @@ pub fn write_image(image: &[u16], out: &mut [u8]) -> Result<usize, Refusal>
     if end > out.len() {
         return Err(Refusal::Output);
     }
-    out[0..HEAD.len()].copy_from_slice(&HEAD);
+    out[..HEAD.len()].copy_from_slice(&HEAD);
     write_words(image, &mut out[HEAD.len()..end]);
     Ok(end)
 }
@@ -87,15 +82,16 @@ pub fn read_image(bytes: &[u8], image: &mut [u16]) -> Result<usize, Refusal>
     ensures written_by { IfOk result (λ n. WrittenBy (take n image.new) bytes.now) }
 {
     image.fill(0);
-    if !bytes.starts_with(&HEAD) || bytes.len() % 2 == 0 {
+    let words = bytes.strip_prefix(&HEAD).ok_or(Refusal::Mark)?;
+    let (pairs, odd) = words.as_chunks::<2>();
+    if !odd.is_empty() {
         return Err(Refusal::Mark);
     }
-    let words = &bytes[HEAD.len()..];
-    let count = words.len() / 2;
+    let count = pairs.len();
     if count > image.len() || count > MOST_WORDS {
         return Err(Refusal::Words);
     }
-    read_words(words, &mut image[0..count]);
+    read_words(pairs, &mut image[..count]);
     Ok(count)
 }
 

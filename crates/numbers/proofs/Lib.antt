@@ -1,6 +1,6 @@
-pub mod Capped
-pub mod Prefixes
 pub mod Values
+pub mod Parsed
+pub mod Signed
 pub mod Told
 pub mod Spelled
 pub mod Places

@@ -1,12 +1,11 @@
 -- Exactly the texts of a width are read, each to its word.
-use Rattle.std.proofs.Common.{◌≡◌, ℕ, ◌+◌, ◌-◌, ◌/◌, ◌^◌, ◌<◌, ◌≤◌, true, eqb, List, [], ◌∷◌, length, get_or, drop, Some, Option, sym, refl, ap, ◌∙◌, subst, mod-lt, arith, pow_pos, pow_mono}
+use Rattle.std.proofs.Common.{◌≡◌, ℕ, ◌+◌, ◌-◌, ◌/◌, ◌^◌, ◌<◌, ◌≤◌, true, cond, ◌&&◌, eqb, List, [], ◌∷◌, length, get_or, drop, Some, Option, sym, ap, ◌∙◌, subst, mod-lt, arith, pow_pos, pow_mono}
 use Rattle.std.specs.Str.Parse.{AllDigits}
 use Rattle.std.specs.Char.{digit_value}
 use Rattle.std.proofs.lemmas.Bool.{eqb-true, and_parts, cond_both}
 use Rattle.std.proofs.lemmas.Bool.Decides.{nat_tests}
 use Rattle.numbers.specs.Reading.{pattern, positive, negative, begins, after_sign, reading}
 use Rattle.numbers.specs.Texts.{Text, plain, plus, minus, hexadecimal, binary, ReadsTexts}
-use Rattle.numbers.proofs.Prefixes.{decimal_way}
 use Rattle.numbers.proofs.Values.{positive_told, positive_only, negative_told, negative_only, pattern_told, pattern_only}
 
 decimal_digit : (c : ℕ) → digit_value c < 10 → (48 ≤ c) × (c ≤ 57)
@@ -22,9 +21,14 @@ second [] d = (λ e. omega arith, λ e. omega arith)
 second (c ∷ []) d = (λ e. omega arith, λ e. omega arith)
 second (c ∷ b ∷ cs) d = let k = decimal_digit b d.1.0 in (λ e. omega arith, λ e. omega arith)
 
+neither : {X : Type 0} (a b k m n : ℕ) (x y z : X) → (a ≡ k → (b ≡ m → ⊥) × (b ≡ n → ⊥)) → cond (eqb a k && eqb b m) x (cond (eqb a k && eqb b n) y z) ≡ z
+neither a b k m n x y z p = grind (arith, nat_tests)
+
+unprefixed : (bits : ℕ) (ds : List ℕ) → AllDigits 10 ds → reading bits ds ≡ after_sign bits ds
+unprefixed bits ds d = neither (get_or ds 0 0) (get_or ds 1 0) 48 120 98 _ _ _ (λ _. second ds d)
+
 every : (bits : ℕ) (text : List ℕ) (w : ℕ) → Text bits text w → reading bits text ≡ Some w
-every bits text w (plain {ds} {n} h lt) =
-    sym (decimal_way bits bits refl ds (Some n) (λ _. second ds h.0.1) (sym (unsigned bits ds h.0.0 h.0.1 ∙ positive_told bits ds n h lt)))
+every bits text w (plain {ds} {n} h lt) = unprefixed bits ds h.0.1 ∙ unsigned bits ds h.0.0 h.0.1 ∙ positive_told bits ds n h lt
 every bits text w (plus {ds} {n} h lt) = positive_told bits ds n h lt
 every bits text w (minus {ds} {n} h le) = negative_told bits ds n h le
 every bits text w (hexadecimal {ds} {n} h few lt) = pattern_told bits ds 16 ((bits + 3) / 4) n h few lt
@@ -81,6 +85,9 @@ module _ (bits : ℕ) (text : List ℕ) (w : ℕ) where
 
 pub reads_texts : (bits : ℕ) (text : List ℕ) → ReadsTexts bits text (reading bits text)
 reads_texts bits text = record { every = every bits text; only = only bits text }
+
+pub told_texts : (bits : ℕ) (text : List ℕ) (r : Option ℕ) → r ≡ reading bits text → ReadsTexts bits text r
+told_texts bits text r is = rw is (reads_texts bits text)
 
 pub read_as : (bits : ℕ) (text : List ℕ) (w : ℕ) → Text bits text w → reading bits text ≡ Some w
 read_as = every

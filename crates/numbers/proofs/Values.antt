@@ -9,7 +9,7 @@ use Rattle.numbers.specs.Texts.{Writes}
 pub none_not : {P : Type 0} (w : ℕ) → None ≡ Some w → P
 none_not w e = let z : ◌≡◌ {A = ℕ} 0 1 = cc in absurd (omega arith)
 
-digits_told : (base acc : ℕ) (ds : List ℕ) → AllDigits base ds → digits_from base acc ds ≡ Some (digits_value_after base acc ds)
+pub digits_told : (base acc : ℕ) (ds : List ℕ) → AllDigits base ds → digits_from base acc ds ≡ Some (digits_value_after base acc ds)
 digits_told base acc [] h = refl
 digits_told base acc (c ∷ cs) h = rw (lt-ltb (digit_value c) base h.0) (digits_told base (acc * base + digit_value c) cs h.1)
 

@@ -1,19 +1,17 @@
 // A number as its usual decimal digits.
-ghost use Rattle.std.specs.Prelude.{◌≡◌, ℕ, ◌≤◌, length, drop, decimal};
+ghost use Rattle.std.specs.Prelude.{◌≡◌, decimal};
 
-/// Writes the digits to the end of the places, and answers where they begin.
-pub fn write_decimal(n: u64, places: &mut [u8; 20]) -> usize
-    ensures digits { drop result places.new ≡ decimal n }
-    ensures within { result ≤ 19 }
-    ensures size { length places.new ≡ 20 }
+/// The digits of a number, written to the end of the places.
+pub fn write_decimal(n: u64, places: &mut [u8; 20]) -> &[u8]
+    ensures { result.now ≡ decimal n }
 {
-    let mut at = 19;
     let mut left = n;
-    places[at] = b'0' + (left % 10) as u8;
-    while left >= 10 {
-        left /= 10;
-        at -= 1;
+    for at in (0..20).rev() {
         places[at] = b'0' + (left % 10) as u8;
+        left /= 10;
+        if left == 0 {
+            return &places[at..];
+        }
     }
-    at
+    unreachable!()
 }

@@ -1,13 +1,15 @@
--- A text put into a buffer part by part. Assumes nothing.
-use Rattle.std.specs.Prelude.{◌≡◌, ℕ, ◌+◌, ◌<◌, ◌≤◌, List, length, Option, MatchOption}
+-- A text put on a page part by part. Assumes nothing.
+use Rattle.std.specs.Prelude.{◌≡◌, ◌+◌, ℕ, ◌<◌, ◌≤◌, List, length, Result, MatchResult}
+use Rattle.buffers.specs.declared.Short.{Short}
 use Rattle.buffers.specs.Buffers.{overlaid}
+use Rattle.buffers.specs.Pages.{Held}
 
--- the text stands at its place, all else as it was, and the answer is the place behind it
-pub record Stands (text : List ℕ) (at : ℕ) (before : List ℕ) (end : ℕ) (after : List ℕ) : Type 0 where
-  pub room : at + length text ≤ length before
-  pub place : end ≡ at + length text
-  pub buffer : after ≡ overlaid before at text
+-- the text stands behind the page's text, all else as it was
+pub record Stands (text : List ℕ) (before : Held) (after : Held) : Type 0 where
+  pub room : before.len + length text ≤ length before.buffer
+  pub len : after.len ≡ before.len + length text
+  pub buffer : after.buffer ≡ overlaid before.buffer before.len text
 
 -- or there is no room for the whole of it
-abbrev pub Added : List ℕ → ℕ → List ℕ → Option ℕ → List ℕ → Type 0
-Added text at before answer after = MatchOption answer (length before < at + length text) (λ end. Stands text at before end after)
+abbrev pub Added : List ℕ → Held → Result Unit Short → Held → Type 0
+Added text before answer after = MatchResult answer (λ _. Stands text before after) (λ _. length before.buffer < before.len + length text)

@@ -8,11 +8,7 @@ use Rattle.text_port.specs.declared.Refusal.{Refusal as Unread}
 use Rattle.text_port.specs.declared.Refusal.TheVariants.{Length, Token}
 use Rattle.report.specs.declared.Refusal.{Refusal}
 use Rattle.report.specs.declared.Refusal.TheVariants.{Machine, File, Text}
-use Rattle.report.specs.declared.Short.{Short}
-
--- a buffer that is too short
-abbrev pub short_number : Short → ℕ
-short_number s = 6
+use Rattle.buffers.specs.declared.Short.{Short}
 
 -- a refusal's number, from the one definition of its kind
 abbrev pub number_of : Refusal → ℕ

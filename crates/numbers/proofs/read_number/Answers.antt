@@ -1,11 +1,13 @@
-use Rattle.std.proofs.Common.{sym, subst}
-use Rattle.numbers.specs.Reading.{bits_of}
-use Rattle.numbers.specs.Texts.{ReadsTexts}
-use Rattle.numbers.proofs.Told.{reads_texts}
+use Rattle.std.proofs.Common.{arith}
+use Rattle.std.proofs.lemmas.Grind.{common_steps}
+use Rattle.numbers.proofs.Told.{told_texts}
 use Rattle.numbers.proofs.read_number.Goals as goal
 
-pub returns : goal.returns
-returns c = record {
-  value = c.read.ensures;
-  texts = subst (ReadsTexts (bits_of c.args.width) c.args.text.now) (sym c.read.ensures) (reads_texts (bits_of c.args.width) c.args.text.now);
-}
+pub returns-in-48-clause-texts : goal.returns-in-48-clause-texts
+returns-in-48-clause-texts c = told_texts _ _ _ (grind (arith, common_steps))
+
+pub returns-in-48-2-clause-texts : goal.returns-in-48-2-clause-texts
+returns-in-48-2-clause-texts c = told_texts _ _ _ (grind (arith, common_steps))
+
+pub returns-in_default-clause-texts : goal.returns-in_default-clause-texts
+returns-in_default-clause-texts c = told_texts _ _ _ (grind (arith, common_steps))

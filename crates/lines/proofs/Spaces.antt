@@ -9,7 +9,7 @@ use Rattle.lines.specs.declared.Place.{Place}
 use Rattle.lines.specs.declared.Place.TheVariants.{Outside, Comment}
 use Rattle.lines.specs.Places.{after, allows, allowed_from, allowed, gap, parts}
 use Rattle.lines.specs.Laws.{White, EndsOutside, between, at_start, at_end, comment, Alike, SpaceLaw}
-use Rattle.lines.proofs.Firsts.{white_stays}
+use Rattle.lines.specs.Cuts.{white_stays}
 
 white_allowed : (c : ℕ) → white c ≡ true → allows Outside c ≡ true
 white_allowed c w = or_left (white c) _ w

@@ -18,7 +18,7 @@ pub record Held : Type 0 where
 -- what a text port holds
 abbrev pub held : TextPort → Held
 held port =
-    record { left = tokens port.rest.now; output = port.output.now; lines = port.lines }
+    record { left = tokens port.tokens.rest.now; output = port.output.now; lines = port.lines }
 
 -- the bytes of the lines written
 abbrev pub front : Held → List ℕ

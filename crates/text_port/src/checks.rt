@@ -3,8 +3,7 @@ ghost use Rattle.std.specs.Prelude.{◌≡◌, ◌≤◌, length};
 ghost use Rattle.text_port.specs.Tokens.{tokens};
 ghost use Rattle.text_port.specs.Checking.{number_of, judging, checking, Caused};
 
-use crate::cursor::Cursor;
-use numbers::{Width, read_number};
+use crate::tokens::{Tokens, read_word};
 
 /// Why a text is refused.
 #[derive(Clone, Copy, PartialEq, Eq, Debug)]
@@ -32,13 +31,8 @@ fn check_tokens(text: &[u8]) -> Result<(), Refusal>
     requires { length text.now ≤ 65536 }
     ensures { result ≡ judging 1 (tokens text.now) }
 {
-    let mut cursor = Cursor { rest: text };
-    let mut at: usize = 1;
-    while let Some(token) = cursor.next_token() {
-        let Some(_) = read_number(token, Width::Sixteen) else {
-            return Err(Refusal::Token(at));
-        };
-        at += 1;
+    for (i, token) in Tokens::new(text).enumerate() {
+        read_word(token).ok_or(Refusal::Token(i + 1))?;
     }
     Ok(())
 }

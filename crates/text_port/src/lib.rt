@@ -4,8 +4,8 @@
 ghost use Rattle.text_port.specs.Laws.{TokenLaws, SendsLines};
 
 mod checks;
-mod cursor;
 mod ports;
+mod tokens;
 
 pub use checks::{Refusal, check_text};
 pub use ports::TextPort;

@@ -7,33 +7,25 @@ ghost use Rattle.text_port.specs.Checking.{checking};
 ghost use Rattle.text_port.specs.Holding.{held, means, front, accepted, unused, fresh, over, taking_one, writing};
 
 use crate::checks::{Refusal, check_text};
-use crate::cursor::Cursor;
-use numbers::{Width, read_number, write_hex};
+use crate::tokens::{Tokens, read_word};
+use numbers::write_hex;
 use port::{Dry, Full, Port};
 
-// The whole of an accepted text, and nothing of a refused one.
-fn accepted_text(text: &[u8]) -> &[u8]
-    ensures { tokens result.now ≡ accepted text.now }
+// The tokens of an accepted text, and none of a refused one.
+fn accepted_tokens(text: &[u8]) -> Tokens<'_>
+    ensures { tokens result.rest.now ≡ accepted text.now }
 {
     match check_text(text) {
-        Ok(()) => text,
-        Err(_) => &text[0..0],
+        Ok(()) => Tokens::new(text),
+        Err(_) => Tokens::new(b""),
     }
 }
 
-// How many words of a text wait.
-fn count_words(text: &[u8]) -> usize
-    ensures { result ≡ length (words_of (tokens text.now)) }
+// How many words of the tokens wait.
+fn count_words(left: Tokens<'_>) -> usize
+    ensures { result ≡ length (words_of (tokens left.entry.rest.now)) }
 {
-    let mut cursor = Cursor { rest: text };
-    let mut count = 0;
-    while let Some(token) = cursor.next_token() {
-        let Some(_) = read_number(token, Width::Sixteen) else {
-            return count;
-        };
-        count += 1;
-    }
-    count
+    left.map_while(read_word).count()
 }
 
 // Writes the line of `word` over the five bytes from `at` on.
@@ -49,7 +41,7 @@ fn write_line(buffer: &mut [u8], at: usize, word: u16)
 /// A text to read, and a buffer for the lines of the words sent.
 #[derive(Drop)]
 pub struct TextPort<'i, 'o> {
-    rest: &'i [u8],
+    tokens: Tokens<'i>,
     output: &'o mut [u8],
     lines: usize,
 }
@@ -63,7 +55,7 @@ impl<'i, 'o> TextPort<'i, 'o> {
         ensures refused { (refusal : Refusal) → checking text.now ≡ Err refusal → (means (held result)).waiting ≡ [] }
     {
         TextPort {
-            rest: accepted_text(text),
+            tokens: accepted_tokens(text),
             output,
             lines: 0,
         }
@@ -87,7 +79,7 @@ impl<'i, 'o> Port for TextPort<'i, 'o> {
     ghost free = { λ s. (means (held s)).free };
 
     fn count_waiting(&self) -> usize {
-        count_words(self.rest)
+        count_words(self.tokens)
     }
 
     fn count_free(&self) -> usize {
@@ -99,14 +91,9 @@ impl<'i, 'o> Port for TextPort<'i, 'o> {
         ensures after { means (held self.new) ≡ (taking (means (held self.old))).after }
         ensures holds { held self.new ≡ taking_one (held self.old) }
     {
-        let mut cursor = Cursor { rest: self.rest };
-        let Some(token) = cursor.next_token() else {
-            return Err(Dry);
-        };
-        let Some(word) = read_number(token, Width::Sixteen) else {
-            return Err(Dry);
-        };
-        self.rest = cursor.rest;
+        let mut tokens = self.tokens;
+        let word = tokens.next().and_then(read_word).ok_or(Dry)?;
+        self.tokens = tokens;
         Ok(word)
     }
 

@@ -1,7 +1,7 @@
 use Rattle.std.proofs.Common.{◌≡◌, ◌+◌, ◌-◌, ◌++◌, take, drop, ap, ◌∙◌, arith, rules}
 use Rattle.std.proofs.lemmas.List.{drop-drop}
 use Rattle.text_port.specs.Lines.{line}
-use Rattle.text_port.proofs.ports.write_line.Goals as goal
+use Rattle.text_port.proofs.lines.write_line.Goals as goal
 
 pub returns : goal.returns
 returns c =

@@ -1,7 +1,7 @@
 use Rattle.std.proofs.Common.{length, ap, ◌∙◌, rules}
 use Rattle.text_port.specs.Tokens.{tokens, words_of}
 use Rattle.text_port.proofs.Counts.{drained}
-use Rattle.text_port.proofs.ports.count_words.Goals as goal
+use Rattle.text_port.proofs.ports.TextPortPort.count_waiting.Goals as goal
 
 pub returns : goal.returns
 returns c =

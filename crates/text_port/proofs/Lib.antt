@@ -1,5 +1,4 @@
 pub mod Causes
-pub mod Starts
 pub mod Writes
 pub mod Sends
 pub mod Reached

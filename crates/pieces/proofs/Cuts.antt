@@ -1,6 +1,6 @@
 -- The first piece of a text and the text behind it, and the laws of pieces.
-use Rattle.std.proofs.Common.{◌≡◌, ℕ, ◌+◌, ◌<◌, Bool, true, false, cond, not, List, [], ◌∷◌, ◌++◌, length, get_or, take, drop, sym, refl, ap, ◌∙◌, subst, arith, length-append}
-use Rattle.std.proofs.lemmas.List.{nil_from_length, take_more, drop_more}
+use Rattle.std.proofs.Common.{◌≡◌, ℕ, ◌+◌, ◌<◌, Bool, true, false, cond, not, List, [], ◌∷◌, ◌++◌, length, get_or, take, sym, refl, ap, ◌∙◌, arith, length-append}
+use Rattle.std.proofs.lemmas.List.{nil_from_length, take_more}
 use Rattle.std.proofs.lemmas.Bool.{false≢true}
 use Rattle.pieces.specs.Pieces.{behind, begun, joined, pieces}
 use Rattle.pieces.specs.Laws.{StopsAt, Each, PieceLaws, GapLaws}
@@ -17,20 +17,11 @@ module _ {S : Type 0} (after : S → ℕ → S) (gap : S → ℕ → Bool) where
 
   -- a scan of xs that has not stopped before i
   module _ (is : Bool) (start s : S) (xs : List ℕ) (i : ℕ) (each : Each after gap is start (take i xs)) (state : s ≡ behind after start (take i xs)) (lt : i < length xs) where
-    at_i : gap (behind after start (take i xs)) (get_or xs i 0) ≡ gap s (get_or xs i 0)
-    at_i = ap (λ t. gap t (get_or xs i 0)) (sym state)
-
     pub each_more : gap s (get_or xs i 0) ≡ is → Each after gap is start (take (i + 1) xs)
-    each_more h = subst (Each after gap is start) (sym (take_more xs i 0 lt)) (each_push is start (take i xs) (get_or xs i 0) each (at_i ∙ h))
+    each_more h = rw (take_more xs i 0 lt) (each_push is start (take i xs) (get_or xs i 0) each (ap (λ t. gap t (get_or xs i 0)) (sym state) ∙ h))
 
     pub behind_more : after s (get_or xs i 0) ≡ behind after start (take (i + 1) xs)
-    behind_more =
-        ap (λ t. after t (get_or xs i 0)) state
-        ∙ sym (behind_push start (take i xs) (get_or xs i 0))
-        ∙ ap (behind after start) (sym (take_more xs i 0 lt))
-
-    pub stops_here : gap s (get_or xs i 0) ≡ not is → StopsAt gap is (behind after start (take i xs)) (drop i xs)
-    stops_here h = subst (StopsAt gap is (behind after start (take i xs))) (sym (drop_more xs i 0 lt)) (at_i ∙ h)
+    behind_more = rw (take_more xs i 0 lt, behind_push, state)
 
   gaps_none : (s : S) (gs : List ℕ) → Each after gap true s gs → pieces after gap s gs ≡ []
   gaps_none s [] h = refl

@@ -1,4 +1,4 @@
--- The first line of a source, and the first part of a line.
+-- The first line of a source, and the text behind it.
 use Rattle.std.proofs.Common.{◌≡◌, ℕ, suc, ◌+◌, ◌<◌, ◌≤◌, min, Bool, true, cond, not, eqb, nat_lt, List, [], ◌∷◌, length, take, drop, Some, None, sym, refl, ap, ◌∙◌, ⊎_elim, arith, length-drop}
 use Rattle.std.proofs.lemmas.Bool.{cases_Bool, cases_lt}
 use Rattle.std.proofs.lemmas.List.{drop_all}
@@ -25,10 +25,6 @@ first_line (c ∷ d ∷ cs) n h is =
     (λ e. rw (e, rw e at is))
     (λ e. let same : n ≡ suc (line_len (d ∷ cs)) = omega (arith, rw e at is) in rw same (rw e (ap (joined c true) (first_line (d ∷ cs) (line_len (d ∷ cs)) (omega arith) refl))))
     (cases_Bool (eqb c 10))
-
-pub no_line : (xs : List ℕ) → length xs ≡ 0 → lines xs ≡ []
-no_line [] e = refl
-no_line (c ∷ cs) e = absurd (omega arith)
 
 line_end : (n size : ℕ) → n ≤ size → unwrap_or (cond (nat_lt n size) (Some n) None) size ≡ n
 line_end n size le = grind (arith, nat_tests)

@@ -1,15 +1,17 @@
 // The lines of a source, which bytes may stand in a line, and the parts of a line.
 #![tactic(auto)]
 
-ghost use Rattle.std.specs.Prelude.{◌≡◌, ◌≤◌, not, length, nat_eq};
-ghost use Rattle.pieces.specs.Pieces.{run_len, until};
+ghost use Rattle.std.specs.Prelude.{◌≡◌, length, nat_eq};
+ghost use Rattle.std.specs.Iterator.{YieldsFirstRef, at_most};
+ghost use Rattle.std.specs.List.{position};
 ghost use Rattle.pieces.specs.Cursors.{Cut};
 ghost use Rattle.lines.specs.Lines.{lines};
-ghost use Rattle.lines.specs.Places.{after, allows, allowed, gap, parts};
+ghost use Rattle.lines.specs.Places.{after, allows, allowed, gap};
 ghost use Rattle.lines.specs.Laws.{LineLaws, PartLaws, SpaceLaw};
 ghost use Rattle.lines.specs.declared.Place.TheVariants.{Outside};
+ghost use Rattle.lines.specs.Cuts.{place_laws};
 
-use pieces::is_white;
+use pieces::{Gaps, Pieces, is_white};
 
 /// Where a byte of a line stands.
 #[derive(Clone, Copy)]
@@ -23,9 +25,31 @@ pub enum Place {
 }
 
 impl Place {
-    fn next(self, b: u8) -> Place
-        ensures { result ≡ after self b }
+    fn allows(self, b: u8) -> bool
+        ensures { result ≡ allows self b }
     {
+        match self {
+            Place::Outside => is_white(b) || (b >= 0x21 && b <= 0x7E),
+            Place::Text | Place::Escape => b >= 0x20 && b <= 0x7E,
+            Place::Comment => true,
+        }
+    }
+}
+
+impl Gaps for Place {
+    ghost start = { Outside };
+
+    ghost next = { after };
+
+    ghost is_gap = { gap };
+
+    ghost laws = { place_laws };
+
+    fn start() -> Self {
+        Self::Outside
+    }
+
+    fn next(self, b: u8) -> Self {
         match (self, b) {
             (Place::Outside, b'"') => Place::Text,
             (Place::Outside, b'#') => Place::Comment,
@@ -37,20 +61,7 @@ impl Place {
         }
     }
 
-    fn allows(self, b: u8) -> bool
-        ensures { result ≡ allows self b }
-    {
-        match self {
-            Place::Outside => is_white(b) || (b >= 0x21 && b <= 0x7E),
-            Place::Text | Place::Escape => b >= 0x20 && b <= 0x7E,
-            Place::Comment => true,
-        }
-    }
-
-    // Whether a byte there belongs to no part.
-    fn is_gap(self, b: u8) -> bool
-        ensures { result ≡ gap self b }
-    {
+    fn is_gap(self, b: u8) -> bool {
         match self {
             Place::Outside => is_white(b) || b == b'#',
             Place::Text | Place::Escape => false,
@@ -73,91 +84,46 @@ pub fn is_allowed(line: &[u8]) -> bool
     true
 }
 
-fn line_len(source: &[u8]) -> usize
-    ensures is { result ≡ until (λ c. nat_eq c 10) source.now }
-    ensures within { result ≤ length source.now }
+fn find_line_end(source: &[u8]) -> Option<usize>
+    ensures { result ≡ position (λ c. nat_eq c 10) source.now }
 {
-    for (i, b) in source.iter().enumerate() {
-        if *b == b'\n' {
-            return i;
-        }
-    }
-    source.len()
+    source.iter().position(|b| *b == b'\n')
 }
 
-fn gap_len(text: &[u8]) -> usize
-    ensures is { result ≡ run_len after (λ p c. not (gap p c)) Outside text.now }
-    ensures within { result ≤ length text.now }
+/// The first line of a source, without its end, and the source behind it.
+pub fn first_line(source: &[u8]) -> Option<(&[u8], &[u8])>
+    ensures { Cut lines source.now result }
 {
-    let mut place = Place::Outside;
-    for (i, b) in text.iter().enumerate() {
-        if !place.is_gap(*b) {
-            return i;
-        }
-        place = place.next(*b);
+    if source.is_empty() {
+        return None;
     }
-    text.len()
+    let end = find_line_end(source).unwrap_or(source.len());
+    // The last line may lack its end.
+    Some((&source[..end], &source[source.len().min(end + 1)..]))
 }
 
-fn part_len(text: &[u8]) -> usize
-    ensures is { result ≡ run_len after gap Outside text.now }
-    ensures within { result ≤ length text.now }
-{
-    let mut place = Place::Outside;
-    for (i, b) in text.iter().enumerate() {
-        if place.is_gap(*b) {
-            return i;
-        }
-        place = place.next(*b);
-    }
-    text.len()
-}
-
-/// What is left of a source.
+/// The lines of what is left of a source, first to last.
 #[derive(Drop)]
 pub struct Lines<'a> {
     pub rest: &'a [u8],
 }
 
-impl<'a> Lines<'a> {
-    /// Removes and answers the first line, without its end.
-    pub fn next_line(&mut self) -> Option<&'a [u8]>
-        ensures { Cut lines result self.old.rest.now self.new.rest.now }
-    {
-        if self.rest.is_empty() {
-            return None;
-        }
-        let end = line_len(self.rest);
-        let line = &self.rest[0..end];
-        self.rest = if end < self.rest.len() {
-            &self.rest[end + 1..]
-        } else {
-            &self.rest[end..]
-        };
+impl<'a> Iterator for Lines<'a> {
+    type Item = &'a [u8];
+
+    ghost next_gives = { YieldsFirstRef (λ s. lines s.rest.now) };
+
+    ghost remaining = { λ s. at_most (length s.rest.now) };
+
+    fn next(&mut self) -> Option<&'a [u8]> {
+        let (line, rest) = first_line(self.rest)?;
+        self.rest = rest;
         Some(line)
     }
 }
 
-/// What is left of a line.
-#[derive(Clone, Copy)]
-pub struct Parts<'a> {
-    pub rest: &'a [u8],
-}
-
-impl<'a> Parts<'a> {
-    /// Removes and answers the first part.
-    pub fn next_part(&mut self) -> Option<&'a [u8]>
-        ensures { Cut parts result self.old.rest.now self.new.rest.now }
-    {
-        let text = &self.rest[gap_len(self.rest)..];
-        if text.is_empty() {
-            return None;
-        }
-        let (part, rest) = text.split_at(part_len(text));
-        self.rest = rest;
-        Some(part)
-    }
-}
+/// The parts of what is left of a line, first to last.
+pub type Parts<'a> = Pieces<'a, Place>;
 
 /// A theorem: what the lines of a source are.
 pub fn line_laws() -> u8

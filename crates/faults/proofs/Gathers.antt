@@ -1,11 +1,8 @@
 -- All answers of a list, and those before its first fault.
-use Rattle.std.proofs.Common.{◌≡◌, ℕ, List, [], ◌∷◌, length, Ok, Err, Result, sym, refl, ap, ◌∙◌, arith}
+use Rattle.std.proofs.Common.{◌≡◌, ℕ, List, [], ◌∷◌, length, Ok, Err, Result, sym, refl, ap, ◌∙◌}
 use Rattle.faults.specs.Chains.{then, under, gathered, good}
 
 module _ {X E : Type 0} where
-  pub ok_not : {P : Type 0} {x : X} {e : E} → Ok x ≡ Err e → P
-  ok_not h = let z : ◌≡◌ {A = ℕ} 0 1 = cc in absurd (omega arith)
-
   -- where all are good, they are those before the first fault
   pub gathered_good : (rs : List (Result X E)) (xs : List X) → gathered rs ≡ Ok xs → good rs ≡ xs
   gathered_good [] xs h = cc
@@ -13,8 +10,8 @@ module _ {X E : Type 0} where
     where
       by : (g : Result (List X) E) → gathered rs ≡ g → then g (λ ys. Ok (x ∷ ys)) ≡ Ok xs → ((ys : List X) → gathered rs ≡ Ok ys → good rs ≡ ys) → x ∷ good rs ≡ xs
       by (Ok ys) e h more = ap (λ l. x ∷ l) (more ys e) ∙ cc
-      by (Err f) e h more = let z : ◌≡◌ {A = ℕ} 0 1 = cc in absurd (omega arith)
-  gathered_good (Err e ∷ rs) xs h = let z : ◌≡◌ {A = ℕ} 0 1 = cc in absurd (omega arith)
+      by (Err f) e h more = cc
+  gathered_good (Err e ∷ rs) xs h = cc
 
   -- what a count of all answers tells
   pub record Counted (n : ℕ) (rs : List (Result X E)) : Type 0 where
@@ -26,11 +23,11 @@ module _ {X E : Type 0} where
     where
       by : (g : Result (List X) E) → gathered rs ≡ g → Ok n ≡ under length g → Counted n rs
       by (Ok xs) e h = let is = gathered_good rs xs e in record { all = e ∙ ap Ok (sym is); many = (let same : n ≡ length xs = cc in same ∙ ap length (sym is)) }
-      by (Err f) e h = let z : ◌≡◌ {A = ℕ} 0 1 = cc in absurd (omega arith)
+      by (Err f) e h = cc
 
   pub counted_fault : (f : E) (rs : List (Result X E)) → Err f ≡ under length (gathered rs) → gathered rs ≡ Err f
   counted_fault f rs h = by (gathered rs) refl h
     where
       by : (g : Result (List X) E) → gathered rs ≡ g → Err f ≡ under length g → gathered rs ≡ Err f
-      by (Ok xs) e h = let z : ◌≡◌ {A = ℕ} 0 1 = cc in absurd (omega arith)
+      by (Ok xs) e h = cc
       by (Err d) e h = e ∙ sym cc

@@ -2,7 +2,9 @@
 #![tactic(auto)]
 
 ghost use Rattle.std.specs.Prelude.{◌≡◌, ◌≤◌, not, length, nat_eq};
-ghost use Rattle.pieces.specs.Pieces.{run_len, until};
+ghost use Rattle.std.specs.Iterator.{YieldsFirstRef, at_most};
+ghost use Rattle.std.specs.List.{position};
+ghost use Rattle.pieces.specs.Pieces.{run_len};
 ghost use Rattle.pieces.specs.Cursors.{Cut};
 ghost use Rattle.lines.specs.Lines.{lines};
 ghost use Rattle.lines.specs.Places.{after, allows, allowed, gap, parts};
@@ -73,16 +75,10 @@ pub fn is_allowed(line: &[u8]) -> bool
     true
 }
 
-fn line_len(source: &[u8]) -> usize
-    ensures is { result ≡ until (λ c. nat_eq c 10) source.now }
-    ensures within { result ≤ length source.now }
+fn find_line_end(source: &[u8]) -> Option<usize>
+    ensures { result ≡ position (λ c. nat_eq c 10) source.now }
 {
-    for (i, b) in source.iter().enumerate() {
-        if *b == b'\n' {
-            return i;
-        }
-    }
-    source.len()
+    source.iter().position(|b| *b == b'\n')
 }
 
 fn gap_len(text: &[u8]) -> usize
@@ -113,47 +109,72 @@ fn part_len(text: &[u8]) -> usize
     text.len()
 }
 
-/// What is left of a source.
+/// The first line of a source, without its end, and the source behind it.
+pub fn first_line(source: &[u8]) -> Option<(&[u8], &[u8])>
+    ensures { Cut lines source.now result }
+{
+    if source.is_empty() {
+        return None;
+    }
+    let end = find_line_end(source).unwrap_or(source.len());
+    // The last line may lack its end.
+    Some((&source[..end], &source[source.len().min(end + 1)..]))
+}
+
+/// The lines of what is left of a source, first to last.
 #[derive(Drop)]
 pub struct Lines<'a> {
     pub rest: &'a [u8],
 }
 
-impl<'a> Lines<'a> {
-    /// Removes and answers the first line, without its end.
-    pub fn next_line(&mut self) -> Option<&'a [u8]>
-        ensures { Cut lines result self.old.rest.now self.new.rest.now }
-    {
-        if self.rest.is_empty() {
-            return None;
-        }
-        let end = line_len(self.rest);
-        let line = &self.rest[0..end];
-        self.rest = if end < self.rest.len() {
-            &self.rest[end + 1..]
-        } else {
-            &self.rest[end..]
-        };
+impl<'a> Iterator for Lines<'a> {
+    type Item = &'a [u8];
+
+    ghost next_gives = { YieldsFirstRef (λ s. lines s.rest.now) };
+
+    ghost remaining = { λ s. at_most (length s.rest.now) };
+
+    fn next(&mut self) -> Option<&'a [u8]> {
+        let (line, rest) = first_line(self.rest)?;
+        self.rest = rest;
         Some(line)
     }
 }
 
-/// What is left of a line.
+fn first_part(line: &[u8]) -> Option<(&[u8], &[u8])>
+    ensures { Cut parts line.now result }
+{
+    let text = &line[gap_len(line)..];
+    if text.is_empty() {
+        return None;
+    }
+    Some(text.split_at(part_len(text)))
+}
+
+/// The parts of what is left of a line, first to last.
 #[derive(Clone, Copy)]
 pub struct Parts<'a> {
     pub rest: &'a [u8],
 }
 
 impl<'a> Parts<'a> {
-    /// Removes and answers the first part.
-    pub fn next_part(&mut self) -> Option<&'a [u8]>
-        ensures { Cut parts result self.old.rest.now self.new.rest.now }
+    /// The parts of a line.
+    pub fn new(line: &'a [u8]) -> Parts<'a>
+        ensures { result.rest.now ≡ line.now }
     {
-        let text = &self.rest[gap_len(self.rest)..];
-        if text.is_empty() {
-            return None;
-        }
-        let (part, rest) = text.split_at(part_len(text));
+        Parts { rest: line }
+    }
+}
+
+impl<'a> Iterator for Parts<'a> {
+    type Item = &'a [u8];
+
+    ghost next_gives = { YieldsFirstRef (λ s. parts s.rest.now) };
+
+    ghost remaining = { λ s. at_most (length s.rest.now) };
+
+    fn next(&mut self) -> Option<&'a [u8]> {
+        let (part, rest) = first_part(self.rest)?;
         self.rest = rest;
         Some(part)
     }

@@ -20,8 +20,8 @@ impl<'a> Values<'a> {
     pub fn next_value(&mut self) -> Result<Option<Immediate<&'a [u8]>>, OperandFault>
         ensures { Next values seen result self.old.rest.now self.new.rest.now }
     {
-        let mut parts = Parts { rest: self.rest };
-        let Some(field) = parts.next_part() else {
+        let mut parts = Parts::new(self.rest);
+        let Some(field) = parts.next() else {
             return Ok(None);
         };
         let value = read_immediate(field, Width::Sixteen)?;

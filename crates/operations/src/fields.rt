@@ -26,7 +26,7 @@ fn is_plain(field: &[u8]) -> bool
 fn next_field<'a>(fields: &mut Parts<'a>) -> Result<&'a [u8], StatementFault>
     ensures { under (λ f. (f.now, parts fields.new.rest.now)) result ≡ first_field (parts fields.old.rest.now) }
 {
-    match fields.next_part() {
+    match fields.next() {
         Some(field) if is_plain(field) => Ok(field),
         _ => Err(StatementFault::Malformed),
     }
@@ -36,7 +36,7 @@ pub(crate) fn end_fields<'a>(fields: Parts<'a>) -> Result<(), StatementFault>
     ensures { result ≡ no_field (parts fields.entry.rest.now) }
 {
     let mut fields = fields;
-    match fields.next_part() {
+    match fields.next() {
         Some(_) => Err(StatementFault::Malformed),
         None => Ok(()),
     }
@@ -79,7 +79,7 @@ fn check_plain<'a>(fields: Parts<'a>) -> Result<(), StatementFault>
     ensures { result ≡ plain_fields (parts fields.entry.rest.now) }
 {
     let mut fields = fields;
-    while let Some(field) = fields.next_part() {
+    while let Some(field) = fields.next() {
         if !is_plain(field) {
             return Err(StatementFault::Malformed);
         }
@@ -134,7 +134,7 @@ pub(crate) fn take_string<'a>(fields: Parts<'a>) -> Result<(Text<'a>, usize), St
     ensures { under (λ t. (seen_text t.0, t.1)) result ≡ under terminated (string (parts fields.entry.rest.now)) }
 {
     let mut fields = fields;
-    let Some(field) = fields.next_part() else {
+    let Some(field) = fields.next() else {
         return Err(StatementFault::Malformed);
     };
     end_fields(fields)?;

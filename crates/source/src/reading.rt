@@ -81,7 +81,7 @@ fn read_begun<'a>(
         return read_operated(line, None, first, rest);
     };
     let mut rest = rest;
-    match rest.next_part() {
+    match rest.next() {
         Some(name) if is_name(label) => read_operated(line, Some(label), name, rest),
         _ => Err(StatementFault::Malformed),
     }
@@ -94,8 +94,8 @@ fn read_statement<'a>(
 ) -> Result<Option<Statement<&'a [u8], Values<'a>, Text<'a>>>, StatementFault>
     ensures { under (option_map seen_statement) result ≡ statement line (parts bytes.now) }
 {
-    let mut rest = Parts { rest: bytes };
-    let Some(first) = rest.next_part() else {
+    let mut rest = Parts::new(bytes);
+    let Some(first) = rest.next() else {
         return Ok(None);
     };
     Ok(Some(read_begun(line, first, rest)?))
@@ -122,7 +122,7 @@ fn count_statements(source: &[u8]) -> Result<usize, AssemblyFault>
     let mut lines = Lines { rest: source };
     let mut number = 1;
     let mut count = 0;
-    while let Some(line) = lines.next_line() {
+    while let Some(line) = lines.next() {
         if let Some(_) = read_line(number, line)? {
             count += 1;
         }

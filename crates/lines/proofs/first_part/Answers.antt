@@ -1,20 +1,20 @@
-use Rattle.std.proofs.Common.{◌-◌, ◌<◌, length, take, drop, refl, arith, true-eqb, false-eqb}
+use Rattle.std.proofs.Common.{◌-◌, ◌<◌, length, take, drop, arith, true-eqb, false-eqb}
 use Rattle.std.proofs.lemmas.List.{take_rest}
 use Rattle.pieces.proofs.Cuts.{no_piece, cut_piece, cut_shorter}
 use Rattle.lines.specs.Places.{after, gap}
 use Rattle.lines.specs.declared.Place.TheVariants.{Outside}
 use Rattle.lines.proofs.Firsts.{settled, part_ends}
-use Rattle.lines.proofs.Parts.next_part.Goals as goal
+use Rattle.lines.proofs.first_part.Goals as goal
 
 pub returns-then-is_empty : goal.returns-then-is_empty
 returns-then-is_empty c =
-    let xs = c.args.self.now.rest.now in
+    let xs = c.args.line.now in
     let n = c.gap_len.result in
-    (no_piece after gap Outside settled (λ l. part_ends Outside l tt) xs _ n c.gap_len.ensures.is (take_rest xs n) (true-eqb _ 0 c.if-is_empty.ensures), refl)
+    no_piece after gap Outside settled (λ l. part_ends Outside l tt) xs _ n c.gap_len.ensures.is (take_rest xs n) (true-eqb _ 0 c.if-is_empty.ensures)
 
 pub returns : goal.returns
 returns c =
-    let xs = c.args.self.now.rest.now in
+    let xs = c.args.line.now in
     let n = c.gap_len.result in
     let ys = take (length xs - n) (drop n xs) in
     let some : 0 < length ys = omega (arith, false-eqb (length ys) 0 c.if-is_empty.ensures) in

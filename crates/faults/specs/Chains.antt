@@ -1,5 +1,5 @@
 -- Answers one after another, as `?` joins them. Assumes nothing.
-use Rattle.std.specs.Prelude.{◌≡◌, ℕ, ◌<◌, List, [], ◌∷◌, length, take, Some, None, Ok, Err, Option, Result}
+use Rattle.std.specs.Prelude.{List, [], ◌∷◌, Ok, Err, Result}
 
 -- go on with the value, or stop with the fault as the next layer has it
 abbrev pub and_then : {X Y E F : Type 0} → Result X E → (E → F) → (X → Result Y F) → Result Y F
@@ -29,8 +29,8 @@ abbrev pub good : {X E : Type 0} → List (Result X E) → List X
 good [] = []
 good (r ∷ rs) = before_fault r (good rs)
 
--- what a cursor over answers removes: nothing is left, the first value is removed, or a fault stands first and all stays
-abbrev pub Next : {X Y E : Type 0} → (List ℕ → List (Result Y E)) → (X → Y) → Result (Option X) E → List ℕ → List ℕ → Type 0
-Next told seen (Ok None) before after = (told before ≡ []) × (after ≡ before)
-Next told seen (Ok (Some x)) before after = (told before ≡ Ok (seen x) ∷ told after) × (length after < length before)
-Next told seen (Err e) before after = (take 1 (told before) ≡ Err e ∷ []) × (after ≡ before)
+-- the values, and the first fault behind them
+abbrev pub up_to_fault : {X E : Type 0} → List (Result X E) → List (Result X E)
+up_to_fault [] = []
+up_to_fault (Ok x ∷ rs) = Ok x ∷ up_to_fault rs
+up_to_fault (Err e ∷ rs) = Err e ∷ []

@@ -7,24 +7,24 @@ ghost use Rattle.faults.specs.declared.StatementFault.TheVariants.{InOperand, In
 ghost use Rattle.faults.specs.declared.AssemblyFault.TheVariants.{InStatement};
 
 /// What is wrong with a field.
-#[derive(Clone, Copy)]
+#[derive(Clone, Copy, PartialEq, Eq, Debug)]
 pub enum OperandFault {
-    UnknownRegister,
+    UnknownRegister = 14,
     /// No number of the width, or a label's name that is malformed or may not stand there.
-    BadNumber,
+    BadNumber = 15,
 }
 
 /// What is wrong with a label that a field names.
-#[derive(Clone, Copy)]
+#[derive(Clone, Copy, PartialEq, Eq, Debug)]
 pub enum LabelFault {
     /// It was never defined.
-    UnknownLabel,
+    UnknownLabel = 16,
     /// A branch does not reach it.
-    TooFar,
+    TooFar = 18,
 }
 
 /// What is wrong with a statement.
-#[derive(Clone, Copy)]
+#[derive(Clone, Copy, PartialEq, Eq, Debug)]
 pub enum StatementFault {
     TooManyLabels,
     TooManyWords,
@@ -37,14 +37,14 @@ pub enum StatementFault {
 }
 
 /// A statement's fault with its line, counted from 1.
-#[derive(Clone, Copy)]
+#[derive(Clone, Copy, PartialEq, Eq, Debug)]
 pub struct OnLine {
     pub line: usize,
     pub fault: StatementFault,
 }
 
 /// Why a source is refused.
-#[derive(Clone, Copy)]
+#[derive(Clone, Copy, PartialEq, Eq, Debug)]
 pub enum AssemblyFault {
     /// It has more than 65,536 bytes.
     TooLong,
@@ -54,7 +54,7 @@ pub enum AssemblyFault {
 }
 
 /// Where a fault was found.
-#[derive(Clone, Copy)]
+#[derive(Clone, Copy, PartialEq, Eq, Debug)]
 pub enum Layer {
     Reading,
     Statement,
@@ -96,10 +96,8 @@ impl StatementFault {
             StatementFault::Malformed => 12,
             StatementFault::UnknownOperation => 13,
             StatementFault::DefinedTwice => 17,
-            StatementFault::InOperand(OperandFault::UnknownRegister) => 14,
-            StatementFault::InOperand(OperandFault::BadNumber) => 15,
-            StatementFault::InLabel(LabelFault::UnknownLabel) => 16,
-            StatementFault::InLabel(LabelFault::TooFar) => 18,
+            StatementFault::InOperand(fault) => fault as u8,
+            StatementFault::InLabel(fault) => fault as u8,
         }
     }
 }
@@ -145,8 +143,5 @@ impl AssemblyFault {
 pub fn place_on_line<T>(line: usize, answer: Result<T, StatementFault>) -> Result<T, OnLine>
     ensures { result ≡ on_line line answer }
 {
-    match answer {
-        Ok(value) => Ok(value),
-        Err(fault) => Err(OnLine { line, fault }),
-    }
+    answer.map_err(|fault| OnLine { line, fault })
 }

@@ -1,6 +1,7 @@
 // The values of a `.fill`, and the characters of a string, one after another.
 ghost use Rattle.std.specs.Prelude.{◌≡◌, ℕ};
-ghost use Rattle.faults.specs.Chains.{Next};
+ghost use Rattle.std.specs.Iterator.{YieldsFirst, YieldsFirstBy, item_count};
+ghost use Rattle.faults.specs.Chains.{under, up_to_fault};
 ghost use Rattle.operands.specs.Operands.{values, seen};
 ghost use Rattle.operands.specs.Texts.{escaped, characters};
 
@@ -9,24 +10,24 @@ use faults::{OperandFault, StatementFault};
 use lines::Parts;
 use numbers::Width;
 
-/// The fields of a line's rest, each a number of 16 bits or a label.
+/// The fields of a line's rest, each a number of 16 bits or a label. Behind a fault nothing is left.
 #[derive(Clone, Copy)]
 pub struct Values<'a> {
     pub rest: &'a [u8],
 }
 
-impl<'a> Values<'a> {
-    /// Removes and answers the first value.
-    pub fn next_value(&mut self) -> Result<Option<Immediate<&'a [u8]>>, OperandFault>
-        ensures { Next values seen result self.old.rest.now self.new.rest.now }
-    {
-        let mut parts = Parts::new(self.rest);
-        let Some(field) = parts.next() else {
-            return Ok(None);
-        };
-        let value = read_immediate(field, Width::Sixteen)?;
-        self.rest = parts.rest;
-        Ok(Some(value))
+impl<'a> Iterator for Values<'a> {
+    type Item = Result<Immediate<&'a [u8]>, OperandFault>;
+
+    ghost next_gives = { YieldsFirstBy (under seen) (λ s. up_to_fault (values s.rest.now)) };
+
+    ghost remaining = { item_count (λ s. up_to_fault (values s.rest.now)) };
+
+    fn next(&mut self) -> Option<Result<Immediate<&'a [u8]>, OperandFault>> {
+        let mut fields = Parts::new(self.rest);
+        let value = read_immediate(fields.next()?, Width::Sixteen);
+        self.rest = if value.is_ok() { fields.rest } else { &[] };
+        Some(value)
     }
 }
 
@@ -42,36 +43,29 @@ fn read_escape(b: u8) -> Result<u8, StatementFault>
     }
 }
 
-/// The bytes of a string behind its opening quote.
+const CLOSED: &[u8] = b"\"";
+
+/// The bytes of a string behind its opening quote. Behind a fault nothing is left.
 #[derive(Clone, Copy)]
 pub struct Text<'a> {
     pub rest: &'a [u8],
 }
 
-impl<'a> Text<'a> {
-    /// Removes and answers the first character; none at a closing quote that stands last.
-    pub fn next_character(&mut self) -> Result<Option<u8>, StatementFault>
-        ensures { Next characters (λ n. n) result self.old.rest.now self.new.rest.now }
-    {
-        let Some((first, behind)) = self.rest.split_first() else {
-            return Err(StatementFault::Malformed);
+impl<'a> Iterator for Text<'a> {
+    type Item = Result<u8, StatementFault>;
+
+    ghost next_gives = { YieldsFirst (λ s. up_to_fault (characters s.rest.now)) };
+
+    ghost remaining = { item_count (λ s. up_to_fault (characters s.rest.now)) };
+
+    fn next(&mut self) -> Option<Result<u8, StatementFault>> {
+        let (character, rest) = match self.rest {
+            [b'"'] => return None,
+            [] | [b'"', ..] | [b'\\'] => (Err(StatementFault::Malformed), CLOSED),
+            [b'\\', taken, rest @ ..] => (read_escape(*taken), rest),
+            [first, rest @ ..] => (Ok(*first), rest),
         };
-        if *first == b'"' {
-            return if behind.is_empty() {
-                Ok(None)
-            } else {
-                Err(StatementFault::Malformed)
-            };
-        }
-        if *first != b'\\' {
-            self.rest = behind;
-            return Ok(Some(*first));
-        }
-        let Some((taken, behind)) = behind.split_first() else {
-            return Err(StatementFault::Malformed);
-        };
-        let character = read_escape(*taken)?;
-        self.rest = behind;
-        Ok(Some(character))
+        self.rest = if character.is_ok() { rest } else { CLOSED };
+        Some(character)
     }
 }

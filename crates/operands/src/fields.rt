@@ -1,5 +1,6 @@
 // What one field stands for.
 ghost use Rattle.std.specs.Prelude.{◌≡◌, ℕ};
+ghost use Rattle.std.specs.List.{list_all};
 ghost use Rattle.numbers.specs.Reading.{bits_of};
 ghost use Rattle.faults.specs.Chains.{under};
 ghost use Rattle.operands.specs.Names.{name_byte, is_name};
@@ -11,7 +12,7 @@ use numbers::{Width, read_number};
 use words::Register;
 
 /// An immediate as it is written: a number's bit pattern, or the value of the label with this name.
-#[derive(Clone, Copy)]
+#[derive(Clone, Copy, PartialEq, Eq, Debug)]
 pub enum Immediate<N> {
     Number(u16),
     Label(N),
@@ -23,28 +24,24 @@ fn is_name_byte(b: u8) -> bool
     b.is_ascii_alphanumeric() || b == b'_'
 }
 
+fn are_name_bytes(text: &[u8]) -> bool
+    ensures { result ≡ list_all name_byte text.now }
+{
+    text.iter().all(|b| is_name_byte(*b))
+}
+
 /// Whether a text is a label's name: 1 to 32 letters, digits and underscores.
 pub fn is_name(text: &[u8]) -> bool
     ensures { result ≡ is_name text.now }
 {
-    if text.is_empty() || text.len() > 32 {
-        return false;
-    }
-    for b in text {
-        if !is_name_byte(*b) {
-            return false;
-        }
-    }
-    true
+    matches!(text.len(), 1..=32) && are_name_bytes(text)
 }
 
 pub fn read_register(text: &[u8]) -> Result<Register, OperandFault>
     ensures { result ≡ register text.now }
 {
     match text {
-        [b'r', digit] if *digit >= b'0' && *digit <= b'7' => {
-            Ok(Register::from_bits(u16::from(*digit - b'0')))
-        }
+        [b'r', digit @ b'0'..=b'7'] => Ok(Register::from_bits(u16::from(*digit - b'0'))),
         _ => Err(OperandFault::UnknownRegister),
     }
 }
@@ -67,18 +64,12 @@ fn read_label<'a>(name: &'a [u8]) -> Result<Immediate<&'a [u8]>, OperandFault>
     }
 }
 
-fn read_plain<'a>(text: &'a [u8], width: Width) -> Result<Immediate<&'a [u8]>, OperandFault>
-    ensures { under seen result ≡ under Number (constant (bits_of width) text.now) }
-{
-    Ok(Immediate::Number(read_constant(text, width)?))
-}
-
 /// A number of a width, or a label.
 pub fn read_immediate<'a>(text: &'a [u8], width: Width) -> Result<Immediate<&'a [u8]>, OperandFault>
     ensures { under seen result ≡ immediate (bits_of width) text.now }
 {
     match text {
         [b'&', name @ ..] => read_label(name),
-        _ => read_plain(text, width),
+        _ => Ok(Immediate::Number(read_constant(text, width)?)),
     }
 }

@@ -1,3 +1,2 @@
-pub mod Tables
 pub mod Takes
 pub mod Within

@@ -8,7 +8,7 @@ use Rattle.faults.specs.declared.OperandFault.{OperandFault}
 use Rattle.faults.specs.declared.OperandFault.TheVariants.{BadNumber}
 use Rattle.faults.specs.declared.StatementFault.{StatementFault}
 use Rattle.faults.specs.declared.StatementFault.TheVariants.{Malformed, InOperand}
-use Rattle.faults.specs.Chains.{under, gathered}
+use Rattle.faults.specs.Chains.{then, under, gathered}
 use Rattle.faults.proofs.Inverse.{never, same_value, held_and_then, held_under, held_cond}
 use Rattle.lines.specs.declared.Place.TheVariants.{Outside, Text, Escape}
 use Rattle.lines.specs.Places.{after, allows, allowed_from, allowed}
@@ -24,8 +24,8 @@ use Rattle.operations.specs.declared.kinds.RegistersNumber.{RegistersNumber}
 use Rattle.operations.specs.declared.kinds.RegisterImmediate.{RegisterImmediate}
 use Rattle.operations.specs.declared.kinds.Operation.TheVariants.{Compute, Not, Jalr, In, Out, Addi, Shf, Lw, Sw, Lli, Lui, Branch, Br, Halt, Jmp, Mov, Lwi, Push, Pop, Fill, Cstr, Def}
 use Rattle.operations.specs.Kinds.{Read}
-use Rattle.operations.specs.Fields.{no_field, one_field, two_fields, three_fields, some_fields, string}
-use Rattle.operations.specs.Reading.{registers_number, register_immediate, one_immediate, one_constant, all_values, operation}
+use Rattle.operations.specs.Fields.{exactly, first_field, some_fields, string}
+use Rattle.operations.specs.Reading.{operand, registers_number, register_immediate, all_values, operation}
 use Rattle.operations.specs.Ranges.{Fits, AllFit, Character, AllCharacters, FieldsInRange}
 
 constant_fits : (bits : ℕ) (text : List ℕ) (n : ℕ) → constant bits text ≡ Ok n → n < 2 ^ bits
@@ -109,7 +109,7 @@ quoted_allowed (c ∷ cs) q a = rw q at (and_parts (allows Outside c) (allowed_f
 string_range : (fs : List (List ℕ)) (cs : List ℕ) → AllAllowed fs → string fs ≡ Ok cs → AllCharacters cs
 string_range [] cs a h = never (sym h)
 string_range (f ∷ fs) cs a h =
-    held_and_then AllCharacters (no_field fs) (λ e. e) _ cs h
+    held_and_then AllCharacters (exactly 0 fs) (λ e. e) _ cs h
     (λ end is k. held_cond AllCharacters (eqb (get_or f 0 0) 34) (gathered (characters (drop 1 f))) (Err Malformed) cs k
     (λ q l. characters_range (drop 1 f) cs (quoted_allowed f q a.0) l)
     (λ q l. never (sym l)))
@@ -117,32 +117,33 @@ string_range (f ∷ fs) cs a h =
 number_range : (fs : List (List ℕ)) (o : RegistersNumber) → registers_number fs ≡ Ok o → o.number < 2 ^ 6
 number_range fs o h =
     let P : RegistersNumber → Type 0 = λ o. o.number < 2 ^ 6 in
-    held_and_then P (three_fields fs) (λ e. e) _ o h
-    (λ f is k. held_and_then P (register f.0) InOperand _ o k
-    (λ rd is k. held_and_then P (register f.1) InOperand _ o k
-    (λ rs1 is k. held_and_then P (constant 6 f.2) InOperand _ o k
-    (λ n is k. subst P (same_value {E = StatementFault} (record { rd = rd; rs1 = rs1; number = n }) o k) (constant_fits 6 f.2 n is)))))
+    held_and_then P (exactly 3 fs) (λ e. e) _ o h
+    (λ right is k. held_and_then P (first_field fs) (λ e. e) _ o k
+    (λ a is k. held_and_then P (register a.0) InOperand _ o k
+    (λ rd is k. held_and_then P (first_field a.1) (λ e. e) _ o k
+    (λ b is k. held_and_then P (register b.0) InOperand _ o k
+    (λ rs1 is k. held_and_then P (first_field b.1) (λ e. e) _ o k
+    (λ c is k. held_and_then P (constant 6 c.0) InOperand _ o k
+    (λ n is k. subst P (same_value {E = StatementFault} (record { rd = rd; rs1 = rs1; number = n }) o k) (constant_fits 6 c.0 n is))))))))
 
 register_range : (bits : ℕ) (fs : List (List ℕ)) (o : RegisterImmediate (List ℕ)) → register_immediate bits fs ≡ Ok o → Fits bits o.imm
 register_range bits fs o h =
     let P : RegisterImmediate (List ℕ) → Type 0 = λ o. Fits bits o.imm in
-    held_and_then P (two_fields fs) (λ e. e) _ o h
-    (λ f is k. held_and_then P (register f.0) InOperand _ o k
-    (λ rd is k. held_and_then P (immediate bits f.1) InOperand _ o k
-    (λ imm is k. subst P (same_value {E = StatementFault} (record { rd = rd; imm = imm }) o k) (immediate_fits bits f.1 imm is))))
+    held_and_then P (exactly 2 fs) (λ e. e) _ o h
+    (λ right is k. held_and_then P (first_field fs) (λ e. e) _ o k
+    (λ a is k. held_and_then P (register a.0) InOperand _ o k
+    (λ rd is k. held_and_then P (first_field a.1) (λ e. e) _ o k
+    (λ b is k. held_and_then P (immediate bits b.0) InOperand _ o k
+    (λ imm is k. subst P (same_value {E = StatementFault} (record { rd = rd; imm = imm }) o k) (immediate_fits bits b.0 imm is))))))
 
-target_range : (fs : List (List ℕ)) (imm : Immediate (List ℕ)) → one_immediate fs ≡ Ok imm → Fits 8 imm
-target_range fs imm h =
-    held_and_then (Fits 8) (one_field fs) (λ e. e) _ imm h
-    (λ f is k. held_and_then (Fits 8) (immediate 8 f) InOperand _ imm k
-    (λ i is k. subst (Fits 8) (same_value {E = StatementFault} i imm k) (immediate_fits 8 f i is)))
-
-constant_range : (fs : List (List ℕ)) (n : ℕ) → one_constant fs ≡ Ok n → n < 2 ^ 16
-constant_range fs n h =
-    let P : ℕ → Type 0 = λ n. n < 2 ^ 16 in
-    held_and_then P (one_field fs) (λ e. e) _ n h
-    (λ f is k. held_and_then P (constant 16 f) InOperand _ n k
-    (λ m is k. subst P (same_value {E = StatementFault} m n k) (constant_fits 16 f m is)))
+-- the only field
+only_range : {X : Type 0} (P : X → Type 0) (read : List ℕ → Result X OperandFault) → ((f : List ℕ) (x : X) → read f ≡ Ok x → P x)
+    → (fs : List (List ℕ)) (x : X) → then (exactly 1 fs) (λ right. then (first_field fs) (λ a. operand (read a.0))) ≡ Ok x → P x
+only_range P read all fs x h =
+    held_and_then P (exactly 1 fs) (λ e. e) _ x h
+    (λ right is k. held_and_then P (first_field fs) (λ e. e) _ x k
+    (λ a is k. held_and_then P (read a.0) InOperand _ x k
+    (λ y is k. subst P (same_value {E = StatementFault} y x k) (all a.0 y is))))
 
 all_range : (fs : List (List ℕ)) (vs : List (Immediate (List ℕ))) → all_values fs ≡ Ok vs → AllFit 16 vs
 all_range fs vs h =
@@ -163,7 +164,7 @@ within name.Sw fs o a h = held_under FieldsInRange Sw _ o h (number_range fs)
 within name.Lli fs o a h = held_under FieldsInRange Lli _ o h (register_range 8 fs)
 within name.Lui fs o a h = held_under FieldsInRange Lui _ o h (register_range 8 fs)
 within (name.Branch t) fs o a h = held_under FieldsInRange (Branch t) _ o h (register_range 8 fs)
-within name.Br fs o a h = held_under FieldsInRange Br _ o h (target_range fs)
+within name.Br fs o a h = held_under FieldsInRange Br _ o h (only_range (Fits 8) (immediate 8) (immediate_fits 8) fs)
 within name.Halt fs o a h = held_under FieldsInRange (λ end. Halt) _ o h (λ x is. tt)
 within name.DotHalt fs o a h = held_under FieldsInRange (λ end. Halt) _ o h (λ x is. tt)
 within name.Jmp fs o a h = held_under FieldsInRange Jmp _ o h (λ x is. tt)
@@ -173,4 +174,4 @@ within name.Push fs o a h = held_under FieldsInRange Push _ o h (λ x is. tt)
 within name.Pop fs o a h = held_under FieldsInRange Pop _ o h (λ x is. tt)
 within name.Fill fs o a h = held_under FieldsInRange Fill _ o h (all_range fs)
 within name.Cstr fs o a h = held_under FieldsInRange Cstr _ o h (λ cs is. string_range fs cs a is)
-within name.Def fs o a h = held_under FieldsInRange Def _ o h (constant_range fs)
+within name.Def fs o a h = held_under FieldsInRange Def _ o h (only_range (λ n. n < 2 ^ 16) (constant 16) (constant_fits 16) fs)

@@ -1,5 +1,6 @@
 -- The names of the operations. Assumes nothing.
-use Rattle.std.specs.Prelude.{ℕ, cond, List, [], ◌∷◌, Some, None, codes, Option}
+use Rattle.std.specs.Prelude.{ℕ, List, [], ◌∷◌, codes, Option}
+use Rattle.std.specs.List.{find}
 use Rattle.std.specs.Str.{bytes_eq}
 use Rattle.words.specs.declared.Function.TheVariants.{Add, Sub, And, Or}
 use Rattle.words.specs.declared.Test.TheVariants.{Equal, NotEqual, Greater, GreaterEqual, Less, LessEqual}
@@ -48,8 +49,7 @@ operations =
 
 -- the first of some operations that has a name
 abbrev pub named : List ℕ → List Mnemonic → Option Mnemonic
-named text [] = None
-named text (m ∷ ms) = cond (bytes_eq text (name_of m)) (Some m) (named text ms)
+named text ms = find (λ m. bytes_eq text (name_of m)) ms
 
 -- the operation that a name stands for
 unfoldable pub mnemonic : List ℕ → Option Mnemonic

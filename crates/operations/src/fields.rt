@@ -1,11 +1,12 @@
 // The fields of a statement, counted before any is read.
 ghost use Rattle.std.specs.Prelude.{◌≡◌, ◌≤◌, length, IfOk};
+ghost use Rattle.std.specs.List.{list_all};
 ghost use Rattle.lines.specs.Places.{parts};
 ghost use Rattle.faults.specs.Chains.{under, gathered};
 ghost use Rattle.operands.specs.Operands.{values};
 ghost use Rattle.operands.specs.Texts.{characters};
 ghost use Rattle.operations.specs.Reading.{all_values};
-ghost use Rattle.operations.specs.Fields.{plain, first_field, no_field, one_field, two_fields, three_fields, plain_fields, some_fields, numbered, terminated, string};
+ghost use Rattle.operations.specs.Fields.{plain, plain_fields, exactly, some_fields, first_field, numbered, terminated, string};
 ghost use Rattle.operations.specs.Kinds.{seen_values, seen_text};
 
 use faults::{OperandFault, StatementFault};
@@ -15,100 +16,64 @@ use operands::{Text, Values};
 fn is_plain(field: &[u8]) -> bool
     ensures { result ≡ plain field.now }
 {
-    for b in field {
-        if *b == b'"' {
-            return false;
-        }
-    }
-    true
+    !field.contains(&b'"')
 }
 
-fn next_field<'a>(fields: &mut Parts<'a>) -> Result<&'a [u8], StatementFault>
-    ensures { under (λ f. (f.now, parts fields.new.rest.now)) result ≡ first_field (parts fields.old.rest.now) }
+fn are_plain(mut fields: Parts<'_>) -> bool
+    ensures { result ≡ list_all plain (parts fields.entry.rest.now) }
 {
-    match fields.next() {
-        Some(field) if is_plain(field) => Ok(field),
-        _ => Err(StatementFault::Malformed),
-    }
+    fields.all(|field| is_plain(field))
 }
 
-pub(crate) fn end_fields<'a>(fields: Parts<'a>) -> Result<(), StatementFault>
-    ensures { result ≡ no_field (parts fields.entry.rest.now) }
-{
-    let mut fields = fields;
-    match fields.next() {
-        Some(_) => Err(StatementFault::Malformed),
-        None => Ok(()),
-    }
-}
-
-pub(crate) fn take_one<'a>(fields: Parts<'a>) -> Result<&'a [u8], StatementFault>
-    ensures { under (λ x. x.now) result ≡ one_field (parts fields.entry.rest.now) }
-{
-    let mut fields = fields;
-    let first = next_field(&mut fields)?;
-    end_fields(fields)?;
-    Ok(first)
-}
-
-pub(crate) fn take_two<'a>(fields: Parts<'a>) -> Result<(&'a [u8], &'a [u8]), StatementFault>
-    ensures { under (λ f. (f.0.now, f.1.now)) result ≡ two_fields (parts fields.entry.rest.now) }
-{
-    let mut fields = fields;
-    let first = next_field(&mut fields)?;
-    let second = next_field(&mut fields)?;
-    end_fields(fields)?;
-    Ok((first, second))
-}
-
-pub(crate) fn take_three<'a>(
-    fields: Parts<'a>,
-) -> Result<(&'a [u8], &'a [u8], &'a [u8]), StatementFault>
-    ensures { under (λ f. (f.0.now, f.1.now, f.2.now)) result ≡ three_fields (parts fields.entry.rest.now) }
-{
-    let mut fields = fields;
-    let first = next_field(&mut fields)?;
-    let second = next_field(&mut fields)?;
-    let third = next_field(&mut fields)?;
-    end_fields(fields)?;
-    Ok((first, second, third))
-}
-
-// Whether no text is among the fields.
-fn check_plain<'a>(fields: Parts<'a>) -> Result<(), StatementFault>
+fn check_plain(fields: Parts<'_>) -> Result<(), StatementFault>
     ensures { result ≡ plain_fields (parts fields.entry.rest.now) }
 {
-    let mut fields = fields;
-    while let Some(field) = fields.next() {
-        if !is_plain(field) {
-            return Err(StatementFault::Malformed);
-        }
+    if are_plain(fields) {
+        Ok(())
+    } else {
+        Err(StatementFault::Malformed)
     }
-    Ok(())
 }
 
-// Whether there is a field or more, and no text.
-fn check_some<'a>(fields: Parts<'a>) -> Result<(), StatementFault>
-    ensures { result ≡ some_fields (parts fields.entry.rest.now) }
+/// Whether there are so many fields and no more, and no text among them.
+pub(crate) fn check_fields(fields: Parts<'_>, count: usize) -> Result<(), StatementFault>
+    ensures { result ≡ exactly count (parts fields.entry.rest.now) }
 {
-    let mut fields = fields;
-    next_field(&mut fields)?;
+    if fields.count() != count {
+        return Err(StatementFault::Malformed);
+    }
     check_plain(fields)
 }
 
-fn count_values<'a>(fields: Values<'a>) -> Result<usize, OperandFault>
+// Whether there is a field or more, and no text among them.
+fn check_some(fields: Parts<'_>) -> Result<(), StatementFault>
+    ensures { result ≡ some_fields (parts fields.entry.rest.now) }
+{
+    if fields.count() == 0 {
+        return Err(StatementFault::Malformed);
+    }
+    check_plain(fields)
+}
+
+pub(crate) fn next_field<'a>(fields: &mut Parts<'a>) -> Result<&'a [u8], StatementFault>
+    ensures { under (λ f. (f.now, parts fields.new.rest.now)) result ≡ first_field (parts fields.old.rest.now) }
+{
+    fields.next().ok_or(StatementFault::Malformed)
+}
+
+fn count_values(fields: Values<'_>) -> Result<usize, OperandFault>
     ensures { result ≡ under length (gathered (values fields.entry.rest.now)) }
 {
-    let mut fields = fields;
     let mut count = 0;
-    while let Some(_) = fields.next_value()? {
+    for value in fields {
+        value?;
         count += 1;
     }
     Ok(count)
 }
 
 // The values of all fields, and how many they are.
-pub(crate) fn take_values<'a>(fields: Parts<'a>) -> Result<(Values<'a>, usize), StatementFault>
+pub(crate) fn take_values(fields: Parts<'_>) -> Result<(Values<'_>, usize), StatementFault>
     ensures { under (λ v. (seen_values v.0, v.1)) result ≡ under numbered (all_values (parts fields.entry.rest.now)) }
 {
     check_some(fields)?;
@@ -117,27 +82,26 @@ pub(crate) fn take_values<'a>(fields: Parts<'a>) -> Result<(Values<'a>, usize), 
     Ok((values, count))
 }
 
-fn count_characters<'a>(text: Text<'a>) -> Result<usize, StatementFault>
+fn count_characters(text: Text<'_>) -> Result<usize, StatementFault>
     ensures all { result ≡ under length (gathered (characters text.entry.rest.now)) }
     ensures bound { IfOk result (λ n. n ≤ length text.entry.rest.now) }
 {
-    let mut text = text;
     let mut count = 0;
-    while let Some(_) = text.next_character()? {
+    for character in text {
+        character?;
         count += 1;
     }
     Ok(count)
 }
 
 // The only field, which is a text, and how many words its characters and a zero are.
-pub(crate) fn take_string<'a>(fields: Parts<'a>) -> Result<(Text<'a>, usize), StatementFault>
+pub(crate) fn take_string(mut fields: Parts<'_>) -> Result<(Text<'_>, usize), StatementFault>
     ensures { under (λ t. (seen_text t.0, t.1)) result ≡ under terminated (string (parts fields.entry.rest.now)) }
 {
-    let mut fields = fields;
     let Some(field) = fields.next() else {
         return Err(StatementFault::Malformed);
     };
-    end_fields(fields)?;
+    check_fields(fields, 0)?;
     let [b'"', rest @ ..] = field else {
         return Err(StatementFault::Malformed);
     };

@@ -1,8 +1,9 @@
 // The operations, each with its own fields.
-use operands::Immediate;
+use operands::{Immediate, Text, Values};
 use words::{Function, Register, Test, ThreeRegisters, TwoRegisters};
 
 /// Operands of `addi`, `shf`, `lw` and `sw`.
+// The number is no `Imm6`: the check makes no proof yet over an enum that holds references beside a struct with a ghost field.
 #[derive(Clone, Copy)]
 pub struct RegistersNumber {
     pub rd: Register,
@@ -52,3 +53,6 @@ pub enum Operation<N, V, T> {
     Cstr(T),
     Def(u16),
 }
+
+/// An operation as it is read: its labels, values and characters in parts of its line.
+pub type LineOperation<'a> = Operation<&'a [u8], Values<'a>, Text<'a>>;

@@ -6,6 +6,6 @@ mod kinds;
 mod mnemonics;
 mod reading;
 
-pub use kinds::{Operation, RegisterImmediate, RegistersNumber, StackRegisters};
+pub use kinds::{LineOperation, Operation, RegisterImmediate, RegistersNumber, StackRegisters};
 pub use mnemonics::{Mnemonic, find_mnemonic};
 pub use reading::read_operation;

@@ -112,12 +112,7 @@ impl Mnemonic {
 fn first_named(operations: &[Mnemonic], name: &[u8]) -> Option<Mnemonic>
     ensures { result ≡ named name.now operations.now }
 {
-    for m in operations {
-        if name == m.name() {
-            return Some(*m);
-        }
-    }
-    None
+    operations.iter().copied().find(|m| name == m.name())
 }
 
 /// The operation that a name stands for.

@@ -6,97 +6,100 @@ ghost use Rattle.faults.specs.Chains.{under};
 ghost use Rattle.operands.specs.Operands.{seen};
 ghost use Rattle.operations.specs.declared.mnemonics.Mnemonic.TheVariants.{Fill, Cstr};
 ghost use Rattle.operations.specs.Kinds.{seen_operands, seen_operation, seen_sized, sized, mnemonic_of};
-ghost use Rattle.operations.specs.Reading.{three_registers, two_registers, stack_registers, one_register, registers_number, register_immediate, one_immediate, one_constant, operation};
+ghost use Rattle.operations.specs.Reading.{registers, three_registers, two_registers, stack_registers, one_register, registers_number, register_immediate, one_immediate, one_constant, operation};
 
-use super::fields::{end_fields, take_one, take_string, take_three, take_two, take_values};
-use super::kinds::{Operation, RegisterImmediate, RegistersNumber, StackRegisters};
+use super::fields::{check_fields, next_field, take_string, take_values};
+use super::kinds::{LineOperation, Operation, RegisterImmediate, RegistersNumber, StackRegisters};
 use super::mnemonics::Mnemonic;
 use faults::StatementFault;
 use lines::Parts;
 use numbers::Width;
-use operands::{Immediate, Text, Values, read_constant, read_immediate, read_register};
+use operands::{Immediate, read_constant, read_immediate, read_register};
 use words::{Register, ThreeRegisters, TwoRegisters};
 
-fn read_three_registers<'a>(fields: Parts<'a>) -> Result<ThreeRegisters, StatementFault>
+fn read_registers<const N: usize>(mut fields: Parts<'_>) -> Result<[Register; N], StatementFault>
+    ensures { result ≡ registers N (parts fields.entry.rest.now) }
+{
+    check_fields(fields, N)?;
+    let mut registers = [Register::R0; N];
+    for register in &mut registers {
+        *register = read_register(next_field(&mut fields)?)?;
+    }
+    Ok(registers)
+}
+
+fn read_three_registers(fields: Parts<'_>) -> Result<ThreeRegisters, StatementFault>
     ensures { result ≡ three_registers (parts fields.entry.rest.now) }
 {
-    let (first, second, third) = take_three(fields)?;
-    let rd = read_register(first)?;
-    let rs1 = read_register(second)?;
-    let rs2 = read_register(third)?;
+    let [rd, rs1, rs2] = read_registers::<3>(fields)?;
     Ok(ThreeRegisters { rd, rs1, rs2 })
 }
 
-fn read_two_registers<'a>(fields: Parts<'a>) -> Result<TwoRegisters, StatementFault>
+fn read_two_registers(fields: Parts<'_>) -> Result<TwoRegisters, StatementFault>
     ensures { result ≡ two_registers (parts fields.entry.rest.now) }
 {
-    let (first, second) = take_two(fields)?;
-    let rd = read_register(first)?;
-    let rs1 = read_register(second)?;
+    let [rd, rs1] = read_registers::<2>(fields)?;
     Ok(TwoRegisters { rd, rs1 })
 }
 
-fn read_stack_registers<'a>(fields: Parts<'a>) -> Result<StackRegisters, StatementFault>
+fn read_stack_registers(fields: Parts<'_>) -> Result<StackRegisters, StatementFault>
     ensures { result ≡ stack_registers (parts fields.entry.rest.now) }
 {
-    let (first, second) = take_two(fields)?;
-    let sp = read_register(first)?;
-    let register = read_register(second)?;
+    let [sp, register] = read_registers::<2>(fields)?;
     Ok(StackRegisters { sp, register })
 }
 
-fn read_one_register<'a>(fields: Parts<'a>) -> Result<Register, StatementFault>
+fn read_one_register(fields: Parts<'_>) -> Result<Register, StatementFault>
     ensures { result ≡ one_register (parts fields.entry.rest.now) }
 {
-    Ok(read_register(take_one(fields)?)?)
+    let [register] = read_registers::<1>(fields)?;
+    Ok(register)
 }
 
-fn read_registers_number<'a>(fields: Parts<'a>) -> Result<RegistersNumber, StatementFault>
+fn read_registers_number(mut fields: Parts<'_>) -> Result<RegistersNumber, StatementFault>
     ensures { result ≡ registers_number (parts fields.entry.rest.now) }
 {
-    let (first, second, third) = take_three(fields)?;
-    let rd = read_register(first)?;
-    let rs1 = read_register(second)?;
-    let number = read_constant(third, Width::Six)?;
+    check_fields(fields, 3)?;
+    let rd = read_register(next_field(&mut fields)?)?;
+    let rs1 = read_register(next_field(&mut fields)?)?;
+    let number = read_constant(next_field(&mut fields)?, Width::Six)?;
     Ok(RegistersNumber { rd, rs1, number })
 }
 
 fn read_register_immediate<'a>(
-    fields: Parts<'a>,
+    mut fields: Parts<'a>,
     width: Width,
 ) -> Result<RegisterImmediate<&'a [u8]>, StatementFault>
     ensures { under seen_operands result ≡ register_immediate (bits_of width) (parts fields.entry.rest.now) }
 {
-    let (first, second) = take_two(fields)?;
-    let rd = read_register(first)?;
-    let imm = read_immediate(second, width)?;
+    check_fields(fields, 2)?;
+    let rd = read_register(next_field(&mut fields)?)?;
+    let imm = read_immediate(next_field(&mut fields)?, width)?;
     Ok(RegisterImmediate { rd, imm })
 }
 
-fn read_one_immediate<'a>(fields: Parts<'a>) -> Result<Immediate<&'a [u8]>, StatementFault>
+fn read_one_immediate<'a>(mut fields: Parts<'a>) -> Result<Immediate<&'a [u8]>, StatementFault>
     ensures { under seen result ≡ one_immediate (parts fields.entry.rest.now) }
 {
-    Ok(read_immediate(take_one(fields)?, Width::Eight)?)
+    check_fields(fields, 1)?;
+    Ok(read_immediate(next_field(&mut fields)?, Width::Eight)?)
 }
 
-fn read_one_constant<'a>(fields: Parts<'a>) -> Result<u16, StatementFault>
+fn read_one_constant(mut fields: Parts<'_>) -> Result<u16, StatementFault>
     ensures { result ≡ one_constant (parts fields.entry.rest.now) }
 {
-    Ok(read_constant(take_one(fields)?, Width::Sixteen)?)
+    check_fields(fields, 1)?;
+    Ok(read_constant(next_field(&mut fields)?, Width::Sixteen)?)
 }
 
-fn read_fill<'a>(
-    fields: Parts<'a>,
-) -> Result<(Operation<&'a [u8], Values<'a>, Text<'a>>, usize), StatementFault>
+fn read_fill<'a>(fields: Parts<'a>) -> Result<(LineOperation<'a>, usize), StatementFault>
     ensures { under seen_sized result ≡ under sized (operation Fill (parts fields.entry.rest.now)) }
 {
     let (values, count) = take_values(fields)?;
     Ok((Operation::Fill(values), count))
 }
 
-fn read_cstr<'a>(
-    fields: Parts<'a>,
-) -> Result<(Operation<&'a [u8], Values<'a>, Text<'a>>, usize), StatementFault>
+fn read_cstr<'a>(fields: Parts<'a>) -> Result<(LineOperation<'a>, usize), StatementFault>
     ensures { under seen_sized result ≡ under sized (operation Cstr (parts fields.entry.rest.now)) }
 {
     let (text, count) = take_string(fields)?;
@@ -107,7 +110,7 @@ fn read_cstr<'a>(
 pub fn read_operation<'a>(
     mnemonic: Mnemonic,
     fields: Parts<'a>,
-) -> Result<(Operation<&'a [u8], Values<'a>, Text<'a>>, usize), StatementFault>
+) -> Result<(LineOperation<'a>, usize), StatementFault>
     ensures { under seen_sized result ≡ under sized (operation mnemonic (parts fields.entry.rest.now)) }
 {
     match mnemonic {
@@ -140,7 +143,7 @@ pub fn read_operation<'a>(
         }
         Mnemonic::Br => Ok((Operation::Br(read_one_immediate(fields)?), 1)),
         Mnemonic::Halt | Mnemonic::DotHalt => {
-            end_fields(fields)?;
+            check_fields(fields, 0)?;
             Ok((Operation::Halt, 1))
         }
         Mnemonic::Jmp => Ok((Operation::Jmp(read_one_register(fields)?), 1)),
@@ -159,7 +162,7 @@ pub fn read_operation<'a>(
     }
 }
 
-impl<'a> Operation<&'a [u8], Values<'a>, Text<'a>> {
+impl<'a> LineOperation<'a> {
     /// The name of the operation.
     pub fn mnemonic(&self) -> Mnemonic
         ensures { result ≡ mnemonic_of (seen_operation self.now) }

@@ -1,14 +1,14 @@
 // The words that an operation stands for.
 ghost use Rattle.std.specs.Prelude.{◌≡◌, ℕ};
-ghost use Rattle.faults.specs.Chains.{then};
+ghost use Rattle.faults.specs.Chains.{then, gathered};
 ghost use Rattle.operations.specs.Kinds.{seen_operation};
 ghost use Rattle.placement.specs.Expansion.{with_six};
-ghost use Rattle.placement.specs.Placing.{words_of, told_words};
+ghost use Rattle.placement.specs.Placing.{words_of, answers};
 
-use super::labels::{Labels, resolve, resolve_distance, upper_of, word_of};
+use super::labels::{Labels, Site, upper_of, word_of};
 use faults::LabelFault;
 use operands::{Text, Values};
-use operations::{Operation, RegistersNumber};
+use operations::{LineOperation, Operation, RegistersNumber};
 use words::{
     Function, Imm6, Imm8, Instruction, Register, RegisterImm8, RegistersImm6, Test, ThreeRegisters,
     TwoRegisters,
@@ -35,13 +35,12 @@ fn with_six(o: RegistersNumber) -> RegistersImm6
     }
 }
 
-/// The words of an operation at an address.
+/// The words of an operation.
 pub(crate) fn expand<'a, L: Labels>(
-    operation: Operation<&'a [u8], Values<'a>, Text<'a>>,
-    address: u16,
-    labels: &L,
+    operation: LineOperation<'a>,
+    site: Site<'_, L>,
 ) -> Result<Words<'a>, LabelFault>
-    ensures { then result (told_words (L.valued labels.now)) ≡ words_of (L.valued labels.now) address (seen_operation operation.entry) }
+    ensures { then result (λ words. gathered (answers (L.valued site.entry.labels.now) words)) ≡ words_of (L.valued site.entry.labels.now) site.entry.address (seen_operation operation.entry) }
 {
     match operation {
         Operation::Compute(f, o) => Ok(Words::One(Instruction::Compute(f, o).encode())),
@@ -54,19 +53,19 @@ pub(crate) fn expand<'a, L: Labels>(
         Operation::Lw(o) => Ok(Words::One(Instruction::Lw(with_six(o)).encode())),
         Operation::Sw(o) => Ok(Words::One(Instruction::Sw(with_six(o)).encode())),
         Operation::Lli(o) => {
-            let imm = Imm8::from_bits(word_of(resolve(o.imm, labels)?));
+            let imm = Imm8::from_bits(site.resolve_word(o.imm)?);
             Ok(Words::One(Instruction::Lli(RegisterImm8 { rd: o.rd, imm }).encode()))
         }
         Operation::Lui(o) => {
-            let imm = upper_of(resolve(o.imm, labels)?);
+            let imm = upper_of(site.resolve(o.imm)?);
             Ok(Words::One(Instruction::Lui(RegisterImm8 { rd: o.rd, imm }).encode()))
         }
         Operation::Branch(t, o) => {
-            let imm = resolve_distance(o.imm, address, labels)?;
+            let imm = site.resolve_distance(o.imm)?;
             Ok(Words::One(Instruction::Branch(t, RegisterImm8 { rd: o.rd, imm }).encode()))
         }
         Operation::Br(target) => {
-            let imm = resolve_distance(target, address, labels)?;
+            let imm = site.resolve_distance(target)?;
             let rd = Register::R0;
             Ok(Words::One(Instruction::Branch(Test::Equal, RegisterImm8 { rd, imm }).encode()))
         }
@@ -84,7 +83,7 @@ pub(crate) fn expand<'a, L: Labels>(
             Ok(Words::One(Instruction::Compute(Function::Add, fields).encode()))
         }
         Operation::Lwi(o) => {
-            let word = word_of(resolve(o.imm, labels)?);
+            let word = word_of(site.resolve(o.imm)?);
             let lower = Instruction::Lli(RegisterImm8 {
                 rd: o.rd,
                 imm: Imm8::from_bits(word),

@@ -18,19 +18,39 @@ pub trait Labels {
         ensures { result ≡ valued self.now name.now };
 }
 
-/// An immediate by value.
-pub(crate) fn resolve<'a, L: Labels>(
-    imm: Immediate<&'a [u8]>,
-    labels: &L,
-) -> Result<Immediate<u16>, LabelFault>
-    ensures { result ≡ resolved_immediate (L.valued labels.now) (seen imm.entry) }
-{
-    match imm {
-        Immediate::Number(n) => Ok(Immediate::Number(n)),
-        Immediate::Label(name) => match labels.look_up(name) {
-            Some(value) => Ok(Immediate::Label(value)),
-            None => Err(LabelFault::UnknownLabel),
-        },
+/// The address of an operation, and the labels that it may name.
+#[derive_where(Clone, Copy)]
+pub(crate) struct Site<'l, L> {
+    pub address: u16,
+    pub labels: &'l L,
+}
+
+impl<L: Labels> Site<'_, L> {
+    /// An immediate by value.
+    pub fn resolve(self, imm: Immediate<&[u8]>) -> Result<Immediate<u16>, LabelFault>
+        ensures { result ≡ resolved_immediate (L.valued self.entry.labels.now) (seen imm.entry) }
+    {
+        match imm {
+            Immediate::Number(n) => Ok(Immediate::Number(n)),
+            Immediate::Label(name) => {
+                let value = self.labels.look_up(name).ok_or(LabelFault::UnknownLabel)?;
+                Ok(Immediate::Label(value))
+            }
+        }
+    }
+
+    /// The word of an immediate.
+    pub fn resolve_word(self, imm: Immediate<&[u8]>) -> Result<u16, LabelFault>
+        ensures { result ≡ resolved_word (L.valued self.entry.labels.now) (seen imm.entry) }
+    {
+        Ok(word_of(self.resolve(imm)?))
+    }
+
+    /// A branch's distance.
+    pub fn resolve_distance(self, imm: Immediate<&[u8]>) -> Result<Imm8, LabelFault>
+        ensures { result ≡ under (distance_of self.entry.address) (resolved_target (L.valued self.entry.labels.now) self.entry.address (seen imm.entry)) }
+    {
+        reach(self.resolve(imm)?, self.address)
     }
 }
 
@@ -40,16 +60,6 @@ pub(crate) fn word_of(imm: Immediate<u16>) -> u16
     match imm {
         Immediate::Number(n) | Immediate::Label(n) => n,
     }
-}
-
-/// The word of an immediate.
-pub(crate) fn resolve_word<'a, L: Labels>(
-    imm: Immediate<&'a [u8]>,
-    labels: &L,
-) -> Result<u16, LabelFault>
-    ensures { result ≡ resolved_word (L.valued labels.now) (seen imm.entry) }
-{
-    Ok(word_of(resolve(imm, labels)?))
 }
 
 /// The byte of a `lui`.
@@ -77,15 +87,4 @@ fn reach(imm: Immediate<u16>, address: u16) -> Result<Imm8, LabelFault>
             Ok(Imm8::from_bits(((to - from + 128) % 256) as u16))
         }
     }
-}
-
-/// A branch's distance.
-pub(crate) fn resolve_distance<'a, L: Labels>(
-    imm: Immediate<&'a [u8]>,
-    address: u16,
-    labels: &L,
-) -> Result<Imm8, LabelFault>
-    ensures { result ≡ under (distance_of address) (resolved_target (L.valued labels.now) address (seen imm.entry)) }
-{
-    reach(resolve(imm, labels)?, address)
 }

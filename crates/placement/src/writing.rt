@@ -1,96 +1,109 @@
 // The words of an operation, written to a lent buffer.
-ghost use Rattle.std.specs.Prelude.{◌≡◌, ℕ, length, Some, Ok};
-ghost use Rattle.placement.specs.declared.expansion.Words.TheVariants.{Each, Characters};
-ghost use Rattle.placement.specs.Resolving.{ValuesOf};
+ghost use Rattle.std.specs.Prelude.{◌≡◌, ℕ, length, OnOk};
+ghost use Rattle.std.specs.Iterator.{YieldsFirst, item_count};
 ghost use Rattle.buffers.specs.Buffers.{blank};
-ghost use Rattle.operations.specs.Kinds.{seen_operation};
-ghost use Rattle.placement.specs.Placing.{words_of, told_words, Removed, Laid, placing};
+ghost use Rattle.faults.specs.Chains.{gathered};
+ghost use Rattle.operations.specs.Kinds.{seen_text, seen_operation};
+ghost use Rattle.placement.specs.Placing.{words_of, answers, placing};
 
 use super::expansion::{Words, expand};
-use super::labels::{Labels, resolve_word};
+use super::labels::{Labels, Site};
 use faults::{LabelFault, StatementFault};
-use operands::{Text, Values};
-use operations::Operation;
+use operands::Text;
+use operations::LineOperation;
 
-fn next_value<'a, L: Labels>(
-    values: Values<'a>,
-    labels: &L,
-) -> Result<Option<(u16, Words<'a>)>, LabelFault>
-    ensures { Removed (L.valued labels.now) (Each values.entry) result }
+// The next character before any fault.
+fn next_character(text: &mut Text<'_>) -> Option<u8>
+    ensures { YieldsFirst seen_text text.old result text.new }
 {
-    let mut values = values;
-    let Ok(Some(value)) = values.next_value() else {
-        return Ok(None);
-    };
-    let word = resolve_word(value, labels)?;
-    Ok(Some((word, Words::Each(values))))
-}
-
-fn next_character<'a>(text: Text<'a>) -> (u16, Words<'a>)
-    ensures { (labels : ValuesOf) → Removed labels (Characters text.entry) (Ok (Some result)) }
-{
-    let mut text = text;
-    match text.next_character() {
-        Ok(Some(character)) => (u16::from(character), Words::Characters(text)),
-        _ => (0, Words::Nothing),
+    match text.next()? {
+        Ok(character) => Some(character),
+        Err(_) => None,
     }
 }
 
-/// The first word, and those behind it.
-fn next_word<'a, L: Labels>(
+/// Words one after another, labels by their values.
+#[derive_where(Clone, Copy)]
+struct Resolved<'l, 'a, L> {
     words: Words<'a>,
-    labels: &L,
-) -> Result<Option<(u16, Words<'a>)>, LabelFault>
-    ensures { Removed (L.valued labels.now) words.entry result }
-{
-    match words {
-        Words::Nothing => Ok(None),
-        Words::One(word) => Ok(Some((word, Words::Nothing))),
-        Words::Two(word, next) => Ok(Some((word, Words::One(next)))),
-        Words::Each(values) => next_value(values, labels),
-        Words::Characters(text) => Ok(Some(next_character(text))),
-    }
+    site: Site<'l, L>,
 }
 
-// Writes the words behind one another to a buffer of zeros, and answers how many they are; none where they do not fit.
-fn lay_words<'a, L: Labels>(
-    words: Words<'a>,
-    labels: &L,
-    out: &mut [u16],
-) -> Result<Option<usize>, LabelFault>
-    requires { out.old ≡ blank (length out.old) }
-    ensures { Laid (told_words (L.valued labels.now) words.entry) (length out.old) result out.new }
-{
-    let mut words = words;
-    let mut at = 0;
-    let mut fits = true;
-    while let Some((word, rest)) = next_word(words, labels)? {
-        if at < out.len() {
-            out[at] = word;
-            at += 1;
-        } else {
-            fits = false;
+impl<'l, 'a, L: Labels> Iterator for Resolved<'l, 'a, L> {
+    type Item = Result<u16, LabelFault>;
+
+    ghost next_gives = { YieldsFirst (λ s. answers (L.valued s.site.labels.now) s.words) };
+
+    ghost remaining = { item_count (λ s. answers (L.valued s.site.labels.now) s.words) };
+
+    #[tactic(auto, using(faults::proofs::Gathers::good_first, faults::proofs::Gathers::good_fault, faults::proofs::Gathers::good_none))]
+    fn next(&mut self) -> Option<Result<u16, LabelFault>> {
+        match self.words {
+            Words::Nothing => None,
+            Words::One(word) => {
+                self.words = Words::Nothing;
+                Some(Ok(word))
+            }
+            Words::Two(word, next) => {
+                self.words = Words::One(next);
+                Some(Ok(word))
+            }
+            Words::Each(mut values) => {
+                let value = values.next()?.ok()?;
+                self.words = Words::Each(values);
+                Some(self.site.resolve_word(value))
+            }
+            Words::Characters(mut text) => {
+                let Some(character) = next_character(&mut text) else {
+                    self.words = Words::Nothing;
+                    return Some(Ok(0));
+                };
+                self.words = Words::Characters(text);
+                Some(Ok(u16::from(character)))
+            }
         }
-        words = rest;
     }
-    if fits { Ok(Some(at)) } else { Ok(None) }
 }
 
-fn write_expanded<'a, L: Labels>(
-    operation: Operation<&'a [u8], Values<'a>, Text<'a>>,
-    address: u16,
-    labels: &L,
+// Writes words behind one another to a buffer of zeros, and answers how many they are.
+fn lay_words<L: Labels>(
+    words: Resolved<'_, '_, L>,
     out: &mut [u16],
-) -> Result<Option<usize>, LabelFault>
+) -> Result<usize, StatementFault>
     requires { out.old ≡ blank (length out.old) }
-    ensures { Laid (words_of (L.valued labels.now) address (seen_operation operation.entry)) (length out.old) result out.new }
+    ensures answer { result ≡ (placing (gathered (answers (L.valued words.entry.site.labels.now) words.entry.words)) (length out.old)).answer }
+    ensures after { OnOk result (out.new ≡ (placing (gathered (answers (L.valued words.entry.site.labels.now) words.entry.words)) (length out.old)).after) }
 {
-    lay_words(expand(operation, address, labels)?, labels, out)
+    let mut end = Some(0);
+    for word in words {
+        let word = word?;
+        end = match end {
+            Some(at) if at < out.len() => {
+                out[at] = word;
+                Some(at + 1)
+            }
+            _ => None,
+        };
+    }
+    end.ok_or(StatementFault::TooManyWords)
+}
+
+fn write_expanded<L: Labels>(
+    operation: LineOperation<'_>,
+    site: Site<'_, L>,
+    out: &mut [u16],
+) -> Result<usize, StatementFault>
+    requires { out.old ≡ blank (length out.old) }
+    ensures answer { result ≡ (placing (words_of (L.valued site.entry.labels.now) site.entry.address (seen_operation operation.entry)) (length out.old)).answer }
+    ensures after { OnOk result (out.new ≡ (placing (words_of (L.valued site.entry.labels.now) site.entry.address (seen_operation operation.entry)) (length out.old)).after) }
+{
+    let words = expand(operation, site)?;
+    lay_words(Resolved { words, site }, out)
 }
 
 /// Writes the words of an operation at an address to the front of `out`, zeros behind them, and answers how many.
-pub fn write_words<'a, L: Labels>(
-    operation: Operation<&'a [u8], Values<'a>, Text<'a>>,
+pub fn write_words<L: Labels>(
+    operation: LineOperation<'_>,
     address: u16,
     labels: &L,
     out: &mut [u16],
@@ -99,15 +112,9 @@ pub fn write_words<'a, L: Labels>(
     ensures after { out.new ≡ (placing (words_of (L.valued labels.now) address (seen_operation operation.entry)) (length out.old)).after }
 {
     out.fill(0);
-    match write_expanded(operation, address, labels, out) {
-        Ok(Some(count)) => Ok(count),
-        Ok(None) => {
-            out.fill(0);
-            Err(StatementFault::TooManyWords)
-        }
-        Err(fault) => {
-            out.fill(0);
-            Err(StatementFault::InLabel(fault))
-        }
+    let written = write_expanded(operation, Site { address, labels }, out);
+    if written.is_err() {
+        out.fill(0);
     }
+    written
 }

@@ -7,7 +7,7 @@ mod reading;
 mod statements;
 
 pub use reading::{check_source, read_line};
-pub use statements::Statement;
+pub use statements::{LineStatement, Statement};
 
 /// A theorem: what changes the answer of a line, and the ranges in which its fields lie.
 pub fn line_reading() -> u8

@@ -4,37 +4,30 @@ ghost use Rattle.std.specs.Option.{option_map};
 ghost use Rattle.lines.specs.Lines.{lines};
 ghost use Rattle.lines.specs.Places.{parts};
 ghost use Rattle.faults.specs.Chains.{under, gathered};
-ghost use Rattle.operations.specs.Mnemonics.{mnemonic};
-ghost use Rattle.source.specs.Statements.{label_of, lacks_label, told, operated, begun, statement, seen_statement};
+ghost use Rattle.source.specs.Statements.{label_of, operated, begun, statement, seen_statement};
 ghost use Rattle.source.specs.Reading.{line_answer, answers, stated_in, statements};
 
-use super::statements::Statement;
+use super::statements::{LineStatement, Statement};
 use faults::{AssemblyFault, StatementFault, place_on_line};
 use lines::{Lines, Parts, is_allowed};
-use operands::{Text, Values, is_name};
+use operands::is_name;
 use operations::{Mnemonic, find_mnemonic, read_operation};
 
 const MOST_BYTES: usize = 65_536;
 
-// Whether a `.def` has no label.
-fn lacks_label<'a>(name: &'a [u8], label: Option<&'a [u8]>) -> bool
-    ensures { result ≡ lacks_label name.now (option_map (λ x. x.now) label.entry) }
-{
-    name == Mnemonic::Def.name() && label.is_none()
-}
-
-// An operation by its name, with its fields.
-fn read_named<'a>(
+// An operation by its name, with its fields, under a label or none.
+fn read_operated<'a>(
     line: usize,
     label: Option<&'a [u8]>,
     name: &'a [u8],
     fields: Parts<'a>,
-) -> Result<Statement<&'a [u8], Values<'a>, Text<'a>>, StatementFault>
-    ensures { under seen_statement result ≡ told line (option_map (λ x. x.now) label.entry) (parts fields.entry.rest.now) (mnemonic name.now) }
+) -> Result<LineStatement<'a>, StatementFault>
+    ensures { under seen_statement result ≡ operated line (option_map (λ x. x.now) label.entry) (name.now ∷ parts fields.entry.rest.now) }
 {
-    let Some(mnemonic) = find_mnemonic(name) else {
-        return Err(StatementFault::UnknownOperation);
-    };
+    if name == Mnemonic::Def.name() && label.is_none() {
+        return Err(StatementFault::Malformed);
+    }
+    let mnemonic = find_mnemonic(name).ok_or(StatementFault::UnknownOperation)?;
     let (operation, width) = read_operation(mnemonic, fields)?;
     Ok(Statement {
         line,
@@ -42,21 +35,6 @@ fn read_named<'a>(
         operation,
         width,
     })
-}
-
-// An operation under a label or none.
-fn read_operated<'a>(
-    line: usize,
-    label: Option<&'a [u8]>,
-    name: &'a [u8],
-    fields: Parts<'a>,
-) -> Result<Statement<&'a [u8], Values<'a>, Text<'a>>, StatementFault>
-    ensures { under seen_statement result ≡ operated line (option_map (λ x. x.now) label.entry) (name.now ∷ parts fields.entry.rest.now) }
-{
-    if lacks_label(name, label) {
-        return Err(StatementFault::Malformed);
-    }
-    read_named(line, label, name, fields)
 }
 
 // The name before the colon that ends a part.
@@ -73,14 +51,13 @@ fn label_of<'a>(part: &'a [u8]) -> Option<&'a [u8]>
 fn read_begun<'a>(
     line: usize,
     first: &'a [u8],
-    rest: Parts<'a>,
-) -> Result<Statement<&'a [u8], Values<'a>, Text<'a>>, StatementFault>
+    mut rest: Parts<'a>,
+) -> Result<LineStatement<'a>, StatementFault>
     ensures { under seen_statement result ≡ begun line first.now (parts rest.entry.rest.now) (label_of first.now) }
 {
     let Some(label) = label_of(first) else {
         return read_operated(line, None, first, rest);
     };
-    let mut rest = rest;
     match rest.next() {
         Some(name) if is_name(label) => read_operated(line, Some(label), name, rest),
         _ => Err(StatementFault::Malformed),
@@ -91,7 +68,7 @@ fn read_begun<'a>(
 fn read_statement<'a>(
     line: usize,
     bytes: &'a [u8],
-) -> Result<Option<Statement<&'a [u8], Values<'a>, Text<'a>>>, StatementFault>
+) -> Result<Option<LineStatement<'a>>, StatementFault>
     ensures { under (option_map seen_statement) result ≡ statement line (parts bytes.now) }
 {
     let mut rest = Parts::new(bytes);
@@ -105,7 +82,7 @@ fn read_statement<'a>(
 pub fn read_line<'a>(
     line: usize,
     bytes: &'a [u8],
-) -> Result<Option<Statement<&'a [u8], Values<'a>, Text<'a>>>, AssemblyFault>
+) -> Result<Option<LineStatement<'a>>, AssemblyFault>
     ensures { under (option_map seen_statement) result ≡ line_answer line bytes.now }
 {
     if !is_allowed(bytes) {
@@ -119,14 +96,11 @@ fn count_statements(source: &[u8]) -> Result<usize, AssemblyFault>
     requires { length source.now ≤ 65536 }
     ensures { result ≡ under (λ ss. length (stated_in ss)) (gathered (answers 1 (lines source.now))) }
 {
-    let mut lines = Lines { rest: source };
-    let mut number = 1;
     let mut count = 0;
-    while let Some(line) = lines.next() {
-        if let Some(_) = read_line(number, line)? {
+    for (i, line) in (Lines { rest: source }).enumerate() {
+        if read_line(i + 1, line)?.is_some() {
             count += 1;
         }
-        number += 1;
     }
     Ok(count)
 }

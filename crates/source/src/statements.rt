@@ -1,4 +1,5 @@
 // A statement is an operation together with its own fields, under a label or none.
+use operands::{Text, Values};
 use operations::Operation;
 
 /// An operation with its line, counted from 1, its label, and the number of words that it places.
@@ -9,3 +10,6 @@ pub struct Statement<N, V, T> {
     pub operation: Operation<N, V, T>,
     pub width: usize,
 }
+
+/// A statement as it is read: its labels, values and characters in parts of its line.
+pub type LineStatement<'a> = Statement<&'a [u8], Values<'a>, Text<'a>>;

@@ -1,12 +1,7 @@
-use Rattle.std.proofs.Common.{◌≡◌, ◌+◌, ◌≤◌, length}
-use Rattle.faults.specs.Chains.{under, gathered}
+use Rattle.faults.specs.Chains.{up_to_fault}
+use Rattle.faults.proofs.Gathers.{Counting}
 use Rattle.operands.specs.Operands.{values}
 use Rattle.operations.proofs.fields.count_values.Given as goal
 
-abbrev pub invariant-loop-count : goal.invariant-loop-count
-invariant-loop-count l =
-    (under (λ vs. length vs + l.count) (gathered (values l.fields.rest.now)) ≡ under length (gathered (values l.initial.fields.rest.now)))
-    × (l.count + length l.fields.rest.now ≤ length l.initial.fields.rest.now)
-
-abbrev pub decreases-loop-count : goal.decreases-loop-count
-decreases-loop-count l = length l.fields.rest.now
+abbrev pub invariant-loop-value : goal.invariant-loop-value
+invariant-loop-value l = Counting l.count (up_to_fault (values l.value-iterator.rest.now)) (values l.initial.fields.rest.now)

@@ -8,7 +8,7 @@ use Rattle.operations.proofs.fields.take_string.Goals.{in_default-field-via-then
 
 pub returns-in_default-field : goal.returns-in_default-field
 returns-in_default-field c =
-    not_quoted (parts c.args.fields.rest.now) _ c.in-Some.field.now c.in-Some.ensures.steps c.in_ok-end_fields.ensures
+    not_quoted (parts c.args.fields.rest.now) _ c.in-Some.field.now c.in-Some.ensures.steps c.in_ok-check_fields.ensures
     (λ e. elim c.in_default-field.branch [
       | in_default-field-via-then-field-lt1 w ↦ (let none = get_or_past c.in-Some.field.now 0 0 (omega (arith, ltb-true)) in omega arith)
       | in_default-field-via-else-field-lt1+in_default-1 w ↦ omega arith
@@ -17,7 +17,7 @@ returns-in_default-field c =
 pub returns-in_err-count : goal.returns-in_err-count
 returns-in_err-count c =
     let p = err_from_is_err_and c.from_residual-in_err-count.result c.from_residual-in_err-count.ensures.1 in
-    rw (p.1, p.2) (text_fault (parts c.args.fields.rest.now) _ c.in-Some.field.now c.in-Some.ensures.steps c.in_ok-end_fields.ensures (omega arith) _ c.in_err-count.ensures.all)
+    rw (p.1, p.2) (text_fault (parts c.args.fields.rest.now) _ c.in-Some.field.now c.in-Some.ensures.steps c.in_ok-check_fields.ensures (omega arith) _ c.in_err-count.ensures.all)
 
 pub returns : goal.returns
-returns c = text_taken (parts c.args.fields.rest.now) _ c.in-Some.field.now c.in-Some.ensures.steps c.in_ok-end_fields.ensures (omega arith) c.in_ok-count.count c.in_ok-count.ensures.all
+returns c = text_taken (parts c.args.fields.rest.now) _ c.in-Some.field.now c.in-Some.ensures.steps c.in_ok-check_fields.ensures (omega arith) c.in_ok-count.count c.in_ok-count.ensures.all

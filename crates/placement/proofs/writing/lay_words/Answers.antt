@@ -1,19 +1,15 @@
-use Rattle.std.proofs.Common.{ℕ, length, Ok, Option, subst, arith}
-use Rattle.placement.specs.declared.expansion.Words.{Words}
-use Rattle.placement.specs.Placing.{told_words, Removed}
+use Rattle.std.proofs.Common.{Some, None, arith}
 use Rattle.placement.proofs.Laying.{laid, over}
 use Rattle.placement.proofs.writing.lay_words.Goals as goal
 
-pub loop-word-preserved-then-at-out : goal.loop-word-preserved-then-at-out
-loop-word-preserved-then-at-out g c =
-    let labels = g.L.Labels.valued c.args.labels.now in
-    let removed = subst (λ (o : Option (ℕ × Words)). Removed labels c.loop-word.words (Ok o)) c.in-Some.is c.in_ok-word.ensures in
-    laid (told_words labels c.args.words) (told_words labels c.loop-word.words) (told_words labels c.in-Some.rest) (length c.args.out.now)
-    c.loop-word.at c.in-Some.word c.loop-word.out removed.0 c.loop-word.fits (omega arith) c.loop-word.invariant
+pub loop-word-preserved-in-Some-end : goal.loop-word-preserved-in-Some-end
+loop-word-preserved-in-Some-end g c =
+    laid _ _ _ _ _ _ (rw c.in_ok-word.was at c.in-Some.ensures.steps) c.in-Some-end.at (omega arith) (rw c.in-Some-end.is at c.loop-word.invariant)
+
+pub loop-word-preserved-in_default : goal.loop-word-preserved-in_default
+loop-word-preserved-in_default g c =
+    over _ _ _ _ _ _ (rw c.in_ok-word.was at c.in-Some.ensures.steps) (Some c.in-Some-end.at) (omega arith) (rw c.in-Some-end.is at c.loop-word.invariant)
 
 pub loop-word-preserved : goal.loop-word-preserved
 loop-word-preserved g c =
-    let labels = g.L.Labels.valued c.args.labels.now in
-    let removed = subst (λ (o : Option (ℕ × Words)). Removed labels c.loop-word.words (Ok o)) c.in-Some.is c.in_ok-word.ensures in
-    over (told_words labels c.args.words) (told_words labels c.loop-word.words) (told_words labels c.in-Some.rest) (length c.args.out.now)
-    c.loop-word.at c.in-Some.word c.loop-word.out removed.0 c.loop-word.fits (omega arith) c.loop-word.invariant
+    over _ _ _ _ _ _ (rw c.in_ok-word.was at c.in-Some.ensures.steps) None tt (rw c.in_default.is at c.loop-word.invariant)

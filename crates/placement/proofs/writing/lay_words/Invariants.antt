@@ -1,10 +1,9 @@
 use Rattle.std.proofs.Common.{length}
-use Rattle.placement.specs.Placing.{told_words, size_of}
+use Rattle.placement.specs.Placing.{answers}
 use Rattle.placement.proofs.Laying.{Sofar}
 use Rattle.placement.proofs.writing.lay_words.Given as goal
 
 abbrev pub invariant-loop-word : goal.invariant-loop-word
-invariant-loop-word g l = Sofar (told_words (g.L.Labels.valued l.labels) l.initial.words) (told_words (g.L.Labels.valued l.labels) l.words) (length l.initial.out) l.at l.fits l.out
-
-abbrev pub decreases-loop-word : goal.decreases-loop-word
-decreases-loop-word g l = size_of l.words
+invariant-loop-word g l =
+    Sofar (answers (g.L.Labels.valued l.initial.words.site.labels.now) l.initial.words.words)
+    (answers (g.L.Labels.valued l.word-iterator.site.labels.now) l.word-iterator.words) (length l.initial.out) l.end l.out

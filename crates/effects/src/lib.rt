@@ -5,10 +5,8 @@ ghost use Rattle.effects.specs.Effects.{SignedEffects};
 ghost use Rattle.effects.specs.Whole.{RepresentedOnce, SignedWord};
 
 /// A theorem: each operation's effect, in signed terms; and that a whole number has one word, which shows its signed value.
-pub fn signed_effects() -> u8
+pub fn signed_effects()
     ensures effects { SignedEffects }
     ensures once { RepresentedOnce }
     ensures signed { SignedWord }
-{
-    0
-}
+{}

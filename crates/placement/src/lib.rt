@@ -11,8 +11,6 @@ pub use labels::Labels;
 pub use writing::write_words;
 
 /// A theorem: an operation's width is the number of its words, and a branch goes to the label that it names.
-pub fn placement_laws() -> u8
+pub fn placement_laws()
     ensures { PlacementLaws }
-{
-    0
-}
+{}

@@ -69,8 +69,6 @@ impl<P: Port> Port for Polarity<P> {
 }
 
 /// A theorem: the laws of polarity.
-pub fn polarity_laws() -> u8
+pub fn polarity_laws()
     ensures { PolarityLaws }
-{
-    0
-}
+{}

@@ -16,6 +16,7 @@ impl<const MAX: u8> Imm<MAX> {
     ghost use Rattle.words.specs.Immediates.{imm_of, extended};
 
     /// The immediate in the low bits of a word.
+    #[tactic(auto, using(crate::proofs::Bits::same_imm))]
     pub fn from_bits(word: u16) -> Self
         ensures { result ≡ imm_of MAX word }
     {

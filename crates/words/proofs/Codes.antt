@@ -85,3 +85,6 @@ unused_none i = grind arith
 
 pub undone : (i : Instruction) → decoded (encoded i) ≡ Some i
 undone i = ap decoded (sym (unused_none i)) ∙ ignored i 0
+
+pub reads_back : (w : ℕ) (i : Instruction) (bits : ℕ) → w ≡ encoded i + unused i bits → decoded w ≡ Some i
+reads_back w i bits e = ap decoded e ∙ ignored i bits

@@ -1,6 +1,7 @@
 // Immediates, as their bit patterns, and their signed values as words.
 ghost use Rattle.std.specs.Prelude.{◌≡◌, ◌≤◌};
 
+// By its greatest pattern and not by its width: each `u8` is one, so that no function has to ask for a width that fits.
 /// An immediate of the bit patterns 0 to `MAX`, of which the upper half stands for negative numbers.
 #[derive(Clone, Copy, PartialEq, Eq, Debug)]
 pub struct Imm<const MAX: u8> {
@@ -16,6 +17,7 @@ impl<const MAX: u8> Imm<MAX> {
     ghost use Rattle.words.specs.Immediates.{imm_of, extended};
 
     /// The immediate in the low bits of a word.
+    #[tactic(auto, using(crate::proofs::Bits::same_imm))]
     pub fn from_bits(word: u16) -> Self
         ensures { result ≡ imm_of MAX word }
     {

@@ -197,6 +197,7 @@ impl Test {
 }
 
 /// The word shifted left by a positive immediate, else right with zeros.
+#[tactic(auto, using(crate::proofs::Shifts::product_gone, crate::proofs::Shifts::quotient_gone))]
 pub fn shift(word: u16, by: Imm6) -> u16
     ensures { result ≡ shifted word by.bits }
 {
@@ -268,6 +269,7 @@ fn pack(instruction: Instruction) -> u16
 
 impl Instruction {
     /// The instruction that a word stands for; unassigned words have none.
+    #[tactic(auto, using(crate::proofs::Codes::reads_back))]
     pub fn decode(word: u16) -> Option<Self>
         ensures value { result ≡ decoded word }
         ensures word { WordOf word result }
@@ -277,6 +279,7 @@ impl Instruction {
     }
 
     /// The word that stands for the instruction, its unused bits zero.
+    #[tactic(auto, using(crate::proofs::Codes::undone))]
     pub fn encode(self) -> u16
         ensures value { result ≡ encoded self }
         ensures undone { decoded result ≡ Some self }

@@ -3,7 +3,7 @@
 
 ghost use Rattle.std.specs.Prelude.{◌≡◌, false};
 ghost use Rattle.words.specs.Registers.{zeros};
-ghost use Rattle.cpu.specs.States.{state, held};
+ghost use Rattle.cpu.specs.States.{state};
 ghost use Rattle.cpu.specs.Steps.{step_of};
 ghost use Rattle.cpu.specs.Stops.{stop_number};
 ghost use Rattle.cpu.specs.declared.Stop.TheVariants.{Dry as stop_dry, Full as stop_full};
@@ -65,7 +65,9 @@ pub struct Cpu {
 impl Cpu {
     /// Registers and program counter zero, not halted.
     pub fn new() -> Cpu
-        ensures { held result ≡ record { registers = zeros; place = 0; halted = false } }
+        ensures registers { result.registers.words ≡ zeros }
+        ensures place { result.pc ≡ 0 }
+        ensures halted { result.halted ≡ false }
     {
         Cpu {
             pc: 0,

@@ -3,11 +3,16 @@ use Rattle.std.proofs.Common.{◌≡◌, ℕ, suc, ◌+◌, ◌-◌, ◌<◌, �
 use Rattle.port.specs.Meaning.{Meaning}
 use Rattle.port.specs.Tape as tape
 use Rattle.machine.specs.Calls.{Standing, unloaded, loading, running}
-use Rattle.bench_run.specs.Timed.{runs_from}
+use Rattle.bench_run.specs.Timed.{runs_from, timed}
 
-pub loaded : (image memory input output : List ℕ) (m : Meaning) (before after : Standing) → m ≡ tape.fresh input output → before ≡ unloaded memory m → after ≡ (loading image before).after → after ≡ (loading image (unloaded memory (tape.fresh input output))).after
-loaded image memory input output m before after fresh_is NewIs load_is =
-    load_is ∙ ap (λ s. (loading image s).after) (NewIs ∙ ap (unloaded memory) fresh_is)
+pub timed_is : {m : Meaning} {before after end : Standing} (image memory input output : List ℕ) (runs : ℕ)
+    → m ≡ tape.fresh input output
+    → before ≡ unloaded memory m
+    → after ≡ (loading image before).after
+    → end ≡ runs_from runs after
+    → end ≡ timed image memory input output runs
+timed_is image memory input output runs fresh_is new_is load_is run_is =
+    run_is ∙ ap (runs_from runs) (load_is ∙ ap (λ s. (loading image s).after) (new_is ∙ ap (unloaded memory) fresh_is))
 
 one_run : (n : ℕ) (s : Standing) → runs_from (suc n) s ≡ runs_from n (running 1000000 s).after
 unfolding runs_from

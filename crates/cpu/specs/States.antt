@@ -3,16 +3,6 @@ use Rattle.std.specs.Prelude.{ℕ, Bool, List}
 use Rattle.port.specs.Meaning.{Meaning}
 use Rattle.cpu.specs.declared.Cpu.{Cpu}
 
--- what a processor holds by itself
-pub record Held : Type 0 where
-  pub registers : List ℕ
-  pub place : ℕ
-  pub halted : Bool
-
--- a processor's registers, place and halt
-abbrev pub held : Cpu → Held
-held c = record { registers = c.registers.words; place = c.pc; halted = c.halted }
-
 -- registers, place, memory words and port meaning, and whether the machine has halted
 pub record State : Type 0 where
   pub registers : List ℕ

@@ -1,10 +1,9 @@
 // The processor: registers, program counter and whether it has halted; one word done at a time.
 #![tactic(auto)]
 
-ghost use Rattle.std.specs.Prelude.{◌≡◌, ℕ, false};
-ghost use Rattle.words.specs.Registers.{written, zeros};
-ghost use Rattle.words.specs.Acts.{behind};
-ghost use Rattle.cpu.specs.States.{state, held};
+ghost use Rattle.std.specs.Prelude.{◌≡◌, false};
+ghost use Rattle.words.specs.Registers.{zeros};
+ghost use Rattle.cpu.specs.States.{state};
 ghost use Rattle.cpu.specs.Steps.{step_of};
 ghost use Rattle.cpu.specs.Stops.{stop_number};
 ghost use Rattle.cpu.specs.declared.Stop.TheVariants.{Dry as stop_dry, Full as stop_full};
@@ -66,27 +65,15 @@ pub struct Cpu {
 impl Cpu {
     /// Registers and program counter zero, not halted.
     pub fn new() -> Cpu
-        ensures { held result ≡ record { registers = zeros; place = 0; halted = false } }
+        ensures registers { result.registers.words ≡ zeros }
+        ensures place { result.pc ≡ 0 }
+        ensures halted { result.halted ≡ false }
     {
         Cpu {
             pc: 0,
             halted: false,
             registers: RegisterFile::new(),
         }
-    }
-
-    // The register receives the word, and the program counter goes on.
-    fn put(&mut self, register: Register, word: u16)
-        ensures { held self.new ≡ record { registers = written self.old.registers.words register word; place = behind self.old.pc; halted = self.old.halted } }
-    {
-        self.registers.set(register, word);
-        self.pc = self.pc.wrapping_add(1);
-    }
-
-    fn next(&self) -> u16
-        ensures { result ≡ behind self.now.pc }
-    {
-        self.pc.wrapping_add(1)
     }
 
     /// Does one word and answers what it costs, or stops and alters nothing.
@@ -104,43 +91,53 @@ impl Cpu {
         let Some(instruction) = Instruction::decode(memory[at]) else {
             return Err(Stop::Unassigned);
         };
-        match instruction {
+        let next = self.pc.wrapping_add(1);
+        self.pc = match instruction {
             Instruction::Compute(function, o) => {
                 let word = function.apply(self.registers.get(o.rs1), self.registers.get(o.rs2));
-                self.put(o.rd, word);
+                self.registers.set(o.rd, word);
+                next
             }
             Instruction::Not(o) => {
                 let word = !self.registers.get(o.rs1);
-                self.put(o.rd, word);
+                self.registers.set(o.rd, word);
+                next
             }
             Instruction::Jalr(o) => {
                 let target = self.registers.get(o.rd);
-                self.put(o.rs1, self.next());
-                self.pc = target;
+                self.registers.set(o.rs1, next);
+                target
             }
             Instruction::In(rd) => {
                 let word = port.take()?;
-                self.put(rd, word);
+                self.registers.set(rd, word);
+                next
             }
-            Instruction::Out(Register::R0) => self.halted = true,
+            Instruction::Out(Register::R0) => {
+                self.halted = true;
+                self.pc
+            }
             Instruction::Out(rd) => {
                 port.send(self.registers.get(rd))?;
-                self.pc = self.next();
+                next
             }
             Instruction::Addi(o) => {
                 let word = self.registers.get(o.rs1).wrapping_add(o.imm.word());
-                self.put(o.rd, word);
+                self.registers.set(o.rd, word);
+                next
             }
             Instruction::Shf(o) => {
                 let word = shift(self.registers.get(o.rs1), o.imm);
-                self.put(o.rd, word);
+                self.registers.set(o.rd, word);
+                next
             }
             Instruction::Lw(o) => {
                 let from = self.registers.get(o.rs1).wrapping_add(o.imm.word()) as usize;
                 if from >= memory.len() {
                     return Err(Stop::Outside);
                 }
-                self.put(o.rd, memory[from]);
+                self.registers.set(o.rd, memory[from]);
+                next
             }
             Instruction::Sw(o) => {
                 let to = self.registers.get(o.rs1).wrapping_add(o.imm.word()) as usize;
@@ -148,23 +145,25 @@ impl Cpu {
                     return Err(Stop::Outside);
                 }
                 memory[to] = self.registers.get(o.rd);
-                self.pc = self.next();
+                next
             }
             Instruction::Lli(o) => {
-                self.put(o.rd, o.imm.word());
+                self.registers.set(o.rd, o.imm.word());
+                next
             }
             Instruction::Lui(o) => {
                 let word = u16::from(o.imm.bits) * 256 + self.registers.get(o.rd) % 256;
-                self.put(o.rd, word);
+                self.registers.set(o.rd, word);
+                next
             }
             Instruction::Branch(test, o) => {
-                let taken = test.passes(self.registers.get(o.rd));
-                self.pc = self.next();
-                if taken {
-                    self.pc = self.pc.wrapping_add(o.imm.word());
+                if test.passes(self.registers.get(o.rd)) {
+                    next.wrapping_add(o.imm.word())
+                } else {
+                    next
                 }
             }
-        }
+        };
         Ok(instruction.cost())
     }
 }

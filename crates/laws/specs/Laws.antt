@@ -16,16 +16,20 @@ and_then budget _ r = r
 abbrev pub BudgetInParts : Type 0
 BudgetInParts = (a b : ℕ) (s : State) → run_of (a + b) s ≡ and_then b (run_of a s).stop (run_of a s)
 
+-- a run does no more cycles than its budget, and a spent one all of them
 pub record Kept (budget : ℕ) (r : Ran) : Type 0 where
   pub within : r.cycles ≤ budget
   pub whole : r.stop ≡ Spent → r.cycles ≡ budget
 
+-- every run keeps to its budget
 abbrev pub WithinBudget : Type 0
 WithinBudget = (budget : ℕ) (s : State) → Kept budget (run_of budget s)
 
+-- a word that stops alters nothing
 abbrev pub StopsAlterNothing : Type 0
 StopsAlterNothing = (s : State) (stop : Stop) → (step_of s).answer ≡ Err stop → (step_of s).after ≡ s
 
+-- register 0 is zero
 abbrev pub Zero : State → Type 0
 Zero s = slice_index s.registers 0 ≡ 0
 
@@ -41,9 +45,11 @@ pub record Holds (image memory : List ℕ) : Type 0 where
   pub image_words : (at : ℕ) → at < length image → slice_index memory at ≡ slice_index image at
   pub zeros_behind : (at : ℕ) → length image ≤ at → slice_index memory at ≡ 0
 
+-- the memory is as long as it was, and holds the image
 pub record Loaded (image : List ℕ) (s t : Standing) : Type 0 where
   pub same_length : length t.state.memory ≡ length s.state.memory
   pub words : Holds image t.state.memory
 
+-- every load that is not refused
 abbrev pub LoadedMemory : Type 0
 LoadedMemory = (image : List ℕ) (s : Standing) → (loading image s).answer ≡ Ok tt → Loaded image s (loading image s).after

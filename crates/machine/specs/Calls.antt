@@ -11,12 +11,13 @@ use Rattle.machine.specs.declared.Refusal.{Refusal}
 use Rattle.machine.specs.declared.Refusal.TheVariants.{Memory, Image, Budget, Count, Address}
 use Rattle.machine.specs.Runs.{Ran, run_of}
 
--- a machine with its memory and port: the size that was loaded, and the cycles since
+-- a machine with its memory and port: the size that was loaded, none before a first load, and the cycles since
 pub record Standing : Type 0 where
   pub state : State
   pub size : Option ℕ
   pub count : ℕ
 
+-- what stands where a machine has a memory, and a port of some meaning, beside it
 abbrev pub stands : Machine → List ℕ → Meaning → Standing
 stands m memory port = record { state = state m.cpu memory port; size = m.size; count = m.count }
 

@@ -13,14 +13,16 @@ use cpu::{Cpu, Stop};
 use port::Port;
 use words::RegisterFile;
 
-// The lengths that a memory may have.
+// The fewest words of a memory.
 const FEWEST_WORDS: usize = 64;
 
+// The most words of a memory.
 const MOST_WORDS: usize = 65_536;
 
-// The cycles that one run may be given, and those that all runs since a load may do together.
+// The most cycles that one run may be given.
 const MOST_BUDGET: u32 = 1_000_000;
 
+// The most cycles of all runs since a load.
 const MOST_CYCLES: u32 = 100_000_000;
 
 /// Why a call was refused. Each refusal leaves machine, memory and port as they were.
@@ -55,7 +57,7 @@ pub struct Look {
 
 #[derive(Clone, Copy)]
 pub struct Machine {
-    // The length of the loaded memory.
+    // The words of the loaded memory, none before a first load.
     size: Option<usize>,
     count: u32,
     cpu: Cpu,

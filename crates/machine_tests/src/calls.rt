@@ -191,23 +191,19 @@ fn do_runs(
     times: u32,
     budget: u32,
 ) -> Result<(u8, u32), Refusal> {
-    let mut last = (0, 0);
-    for _ in 0..times {
-        last = do_run(machine, memory, budget)?;
-    }
-    Ok(last)
+    (0..times).try_fold((0, 0), |_, _| do_run(machine, memory, budget))
 }
 
 // How many words of memory the call is given.
 fn length_of(call: &Call) -> usize {
     match call {
-        Call::Load(n, _) => *n,
-        Call::Fill(n, _) => *n,
-        Call::Run(n, _) => *n,
-        Call::Runs(n, _, _) => *n,
-        Call::Place(n) => *n,
-        Call::Count(n) => *n,
-        Call::Peek(n, _) => *n,
+        Call::Load(n, _)
+        | Call::Fill(n, _)
+        | Call::Run(n, _)
+        | Call::Runs(n, _, _)
+        | Call::Place(n)
+        | Call::Count(n)
+        | Call::Peek(n, _) => *n,
     }
 }
 
@@ -224,7 +220,7 @@ fn do_call(
         }
         Call::Fill(_, length) => {
             let end = loops.len().min(*length);
-            machine.load(&loops[0..end], memory)?;
+            machine.load(&loops[..end], memory)?;
             Ok((0, 0))
         }
         Call::Run(_, budget) => do_run(machine, memory, *budget),
@@ -246,29 +242,22 @@ fn do_call(
 
 fn answer(call: &Call, machine: &mut Machine, memory: &mut [u16], loops: &[u16]) -> (u8, u32) {
     let end = memory.len().min(length_of(call));
-    match do_call(call, machine, &mut memory[0..end], loops) {
-        Ok(pair) => pair,
-        Err(refusal) => (refusal.number(), 0),
-    }
+    do_call(call, machine, &mut memory[..end], loops).unwrap_or_else(|refusal| (
+        refusal.number(),
+        0,
+    ))
 }
 
-// How many steps come before the first that answers otherwise.
-fn right_steps(steps: &[Step], memory: &mut [u16], loops: &[u16]) -> usize {
+// The first step that answers otherwise.
+fn wrong_step(steps: &[Step], memory: &mut [u16], loops: &[u16]) -> Option<usize> {
     let mut machine = Machine::new();
-    let mut right = 0usize;
-    for step in steps {
-        if answer(&step.0, &mut machine, memory, loops) != (step.1, step.2) {
-            return right;
-        }
-        right = right.wrapping_add(1);
-    }
-    right
+    steps.iter().position(|step| answer(&step.0, &mut machine, memory, loops) != (step.1, step.2))
 }
 
 #[test]
 fn calls_in_order(rt: HostRuntime) -> Result<(), Fail> {
     let mut memory = vec![in rt.alloc(); 0u16; 65_537]?;
     let loops = vec![in rt.alloc(); 0xA0FFu16; 65_537]?;
-    assert_eq!(rt; right_steps(&STEPS, &mut memory, &loops), STEPS.len());
+    assert_eq!(rt; wrong_step(&STEPS, &mut memory, &loops), None);
     Ok(())
 }

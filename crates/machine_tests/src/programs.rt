@@ -306,22 +306,17 @@ static PROGRAMS: [Program; 10] = [
     ),
 ];
 
-// How many programs come before the first that ends otherwise.
-fn right_programs(programs: &[Program], memory: &mut [u16]) -> usize {
-    let mut right = 0usize;
-    for program in programs {
+// The first program that ends otherwise.
+fn wrong_program(programs: &[Program], memory: &mut [u16]) -> Option<usize> {
+    programs.iter().position(|program| {
         let end = memory.len().min(program.0);
-        if attempt(&program.1, &mut memory[0..end]) != Ok(program.2) {
-            return right;
-        }
-        right = right.wrapping_add(1);
-    }
-    right
+        attempt(&program.1, &mut memory[..end]) != Ok(program.2)
+    })
 }
 
 #[test]
 fn programs_to_their_end(rt: HostRuntime) -> Result<(), Fail> {
     let mut memory = vec![in rt.alloc(); 0u16; 65_536]?;
-    assert_eq!(rt; right_programs(&PROGRAMS, &mut memory), PROGRAMS.len());
+    assert_eq!(rt; wrong_program(&PROGRAMS, &mut memory), None);
     Ok(())
 }

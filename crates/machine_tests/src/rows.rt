@@ -183,8 +183,8 @@ fn scene(at: usize, word: u16, before: [u16; 8]) -> [u16; 64] {
 // The registers with one of them changed.
 fn changed(before: [u16; 8], register: usize, word: u16) -> [u16; 8] {
     let mut registers = before;
-    if register < 8 {
-        registers[register] = word;
+    if let Some(place) = registers.get_mut(register) {
+        *place = word;
     }
     registers
 }
@@ -241,35 +241,25 @@ fn agrees(at: usize, word: u16, before: [u16; 8], change: Change, pc: u16) -> bo
     done(at, word, before, change) == Ok(expected(change, before, pc))
 }
 
-// How many places come before the first that is otherwise.
-fn right_places(places: &[Place]) -> usize {
-    let mut right = 0usize;
-    for place in places {
+// The first place that is otherwise.
+fn wrong_place(places: &[Place]) -> Option<usize> {
+    places.iter().position(|place| {
         let [r1, r2, r3, r4] = place.2;
         let before = [0, r1, r2, r3, r4, 0x5555, 0x6666, 30];
-        if !agrees(place.0, place.1, before, place.3, place.4) {
-            return right;
-        }
-        right = right.wrapping_add(1);
-    }
-    right
+        !agrees(place.0, place.1, before, place.3, place.4)
+    })
 }
 
-fn right_rows(rows: &[Row]) -> usize {
-    let mut right = 0usize;
-    for row in rows {
+fn wrong_row(rows: &[Row]) -> Option<usize> {
+    rows.iter().position(|row| {
         let [r1, r2, r3] = row.1;
         let before = [0, r1, r2, r3, 0x4444, 0x5555, 0x6666, 30];
-        if !agrees(4, row.0, before, row.2, row.3) {
-            return right;
-        }
-        right = right.wrapping_add(1);
-    }
-    right
+        !agrees(4, row.0, before, row.2, row.3)
+    })
 }
 
 #[test]
 fn words_one_by_one(rt: HostRuntime) {
-    assert_eq!(rt; right_places(&PLACES), PLACES.len());
-    assert_eq!(rt; right_rows(&ROWS), ROWS.len());
+    assert_eq!(rt; wrong_place(&PLACES), None);
+    assert_eq!(rt; wrong_row(&ROWS), None);
 }

@@ -30,31 +30,22 @@ pub struct Seen {
 }
 
 fn list(file: RegisterFile) -> [u16; 8] {
-    let mut words = [0; 8];
-    for n in 0..8u16 {
-        words[n as usize] = file.get(Register::from_bits(n));
-    }
-    words
+    [0, 1, 2, 3, 4, 5, 6, 7].map(|n| file.get(Register::from_bits(n)))
 }
 
 // How many of the words stand in the memory, one after the other.
 fn find(machine: &Machine, memory: &[u16], from: usize, words: &[u16]) -> usize {
-    let mut at = from;
-    let mut found = 0usize;
-    for word in words {
-        if machine.peek(at, memory) == Ok(*word) {
-            found = found.wrapping_add(1);
-        }
-        at = at.wrapping_add(1);
-    }
-    found
+    (from..)
+        .zip(words)
+        .filter(|(at, word)| machine.peek(*at, memory) == Ok(**word))
+        .count()
 }
 
 /// Loads, runs twice, and looks around.
 pub(crate) fn attempt(trial: &Trial, memory: &mut [u16]) -> Result<Seen, Refusal> {
     let mut sent = [0; 5];
     let room = trial.room.min(5);
-    let mut tape = Tape::new(trial.input, &mut sent[0..room]);
+    let mut tape = Tape::new(trial.input, &mut sent[..room]);
     let mut machine = Machine::new();
     machine.load(trial.image, memory)?;
     let _ = machine.run(trial.scene, memory, &mut tape)?;

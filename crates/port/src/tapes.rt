@@ -56,7 +56,9 @@ impl<'i, 'o> Port for Tape<'i, 'o> {
         ensures after { means (held self.new) ≡ (taking (means (held self.old))).after }
         ensures tape { held self.new ≡ reading (held self.old) }
     {
-        let (word, rest) = self.input.split_first().ok_or(Dry)?;
+        let [word, rest @ ..] = self.input else {
+            return Err(Dry);
+        };
         self.input = rest;
         Ok(*word)
     }

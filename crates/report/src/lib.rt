@@ -1,7 +1,7 @@
 // The text that programs print, formed into lent buffers.
 #![tactic(auto)]
 
-ghost use Rattle.std.specs.Prelude.{◌≡◌, length, decimal};
+ghost use Rattle.std.specs.Prelude.{◌≡◌, ◌≤◌, length, decimal, IfOk};
 ghost use Rattle.buffers.specs.Pages.{held};
 ghost use Rattle.report.specs.Adding.{Added};
 ghost use Rattle.report.specs.Lines.{number_of, place_of, refusal_line, printing};
@@ -97,6 +97,7 @@ fn append_refusal(refusal: Refusal, page: &mut Page<'_>) -> Result<(), Short>
 pub fn write_refusal(refusal: Refusal, out: &mut [u8]) -> Result<usize, Short>
     ensures answer { result ≡ (printing (refusal_line refusal) (length out.old)).answer }
     ensures after { out.new ≡ (printing (refusal_line refusal) (length out.old)).after }
+    ensures within { IfOk result (λ n. n ≤ length out.old) }
 {
     out.fill(0);
     let mut page = Page::new(out);

@@ -1,5 +1,6 @@
 -- What a page holds, and what appending a text to one answers and leaves. Assumes nothing.
 use Rattle.std.specs.Prelude.{ℕ, ◌+◌, cond, List, length, take, Ok, Err, Result, nat_lt}
+use Rattle.std.specs.Borrow.{GName}
 use Rattle.buffers.specs.declared.Short.{Short}
 use Rattle.buffers.specs.declared.Page.{Page}
 use Rattle.buffers.specs.Buffers.{overlaid}
@@ -31,3 +32,7 @@ abbrev pub appending : List ℕ → Held → Appended
 appending text page =
     cond (nat_lt (length page.buffer) (page.len + length text)) (record { answer = Err (record {}); after = page })
     (record { answer = Ok tt; after = record { buffer = overlaid page.buffer page.len text; len = page.len + length text } })
+
+-- the loan that a page is written to, by its ghost name
+abbrev pub loan_of : Page → GName
+loan_of page = page.buffer.ghost_name

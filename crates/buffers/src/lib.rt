@@ -27,11 +27,11 @@ pub struct Page<'a> {
 }
 
 impl<'a> Page<'a> {
-    ghost use Rattle.buffers.specs.Pages.{held, text_of, unwritten, appending};
+    ghost use Rattle.buffers.specs.Pages.{held, loan_of, text_of, unwritten, appending};
 
     /// A page with no text; the buffer stays as it is.
     pub fn new(buffer: &'a mut [u8]) -> Page<'a>
-        ensures buffer { result.buffer.ghost_name ≡ buffer.entry.ghost_name }
+        ensures loan { loan_of result ≡ buffer.entry.ghost_name }
         ensures holds { held result ≡ unwritten buffer.old }
     {
         Page { buffer, len: 0 }
@@ -46,7 +46,7 @@ impl<'a> Page<'a> {
 
     /// Writes `text` behind the text; where it does not fit, writes nothing.
     pub fn append(&mut self, text: &[u8]) -> Result<(), Short>
-        ensures buffer { self.new.buffer.ghost_name ≡ self.old.buffer.ghost_name }
+        ensures loan { loan_of self.new ≡ loan_of self.old }
         ensures answer { result ≡ (appending text.now (held self.old)).answer }
         ensures after { held self.new ≡ (appending text.now (held self.old)).after }
     {

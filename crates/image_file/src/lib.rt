@@ -1,7 +1,7 @@
 // The file form of an image: a mark, a version and the words, each high byte first.
 #![tactic(auto)]
 
-ghost use Rattle.std.specs.Prelude.{◌≡◌, ◌*◌, length, map, take, IfOk};
+ghost use Rattle.std.specs.Prelude.{◌≡◌, ◌*◌, ◌≤◌, length, map, take, IfOk};
 ghost use Rattle.image_file.specs.Bytes.{bytes_of, word_of};
 ghost use Rattle.image_file.specs.Calls.{writing, reading};
 ghost use Rattle.image_file.specs.Laws.{ByteLaws, ReadsBack, WrittenBy};
@@ -60,6 +60,7 @@ fn read_words(pairs: &[[u8; 2]], words: &mut [u16])
 pub fn write_image(image: &[u16], out: &mut [u8]) -> Result<usize, Refusal>
     ensures answer { result ≡ (writing image.now (length out.old)).answer }
     ensures after { out.new ≡ (writing image.now (length out.old)).after }
+    ensures within { IfOk result (λ n. n ≤ length out.old) }
     ensures reads_back { IfOk result (λ n. ReadsBack (take n out.new) image.now) }
 {
     out.fill(0);
@@ -79,6 +80,7 @@ pub fn write_image(image: &[u16], out: &mut [u8]) -> Result<usize, Refusal>
 pub fn read_image(bytes: &[u8], image: &mut [u16]) -> Result<usize, Refusal>
     ensures answer { result ≡ (reading bytes.now (length image.old)).answer }
     ensures after { image.new ≡ (reading bytes.now (length image.old)).after }
+    ensures within { IfOk result (λ n. n ≤ length image.old) }
     ensures written_by { IfOk result (λ n. WrittenBy (take n image.new) bytes.now) }
 {
     image.fill(0);

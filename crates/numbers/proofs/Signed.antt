@@ -126,9 +126,6 @@ rem_natural : (z d : ℤ) → int_rem_euclid z d ≡ pos (nat_abs (int_rem_eucli
 rem_natural (pos a) d = refl
 rem_natural (negsuc a) d = refl
 
-true_not_false : (b : Bool) → b ≡ true → b ≡ false → ⊥
-true_not_false b t f = cc
-
 module _ (width : Width) (text : List ℕ) where
   decimal_none : ((w : ℕ) → Signed (bits_of width) text w → ⊥) → None ≡ after_sign (bits_of width) text
   decimal_none h = none_when (after_sign (bits_of width) text) (λ w e. h w (decimal_only (bits_of width) text w e))
@@ -147,7 +144,7 @@ module _ (width : Width) (text : List ℕ) where
   -- a number that is parsed, and the test of its range
   module _ (n : ℤ) (is : n ≡ signed_digits_value 10 text) where
     pub decimal_outside : within (bits_of width) n ≡ false → None ≡ after_sign (bits_of width) text
-    decimal_outside e = decimal_none (λ w d. let t = within_from width (signed_digits_value 10 text) d.low d.high in true_not_false _ t (subst (λ z. within (bits_of width) z ≡ false) is e))
+    decimal_outside e = decimal_none (λ w d. let t = within_from width (signed_digits_value 10 text) d.low d.high in (let f = subst (λ z. within (bits_of width) z ≡ false) is e in cc))
 
     pub decimal_inside : IsNumeral 10 (without_leading_sign text) → within (bits_of width) n ≡ true
         → Some (nat_abs (int_rem_euclid n (pos (2 ^ bits_of width)))) ≡ after_sign (bits_of width) text

@@ -27,12 +27,12 @@ neither a b k m n x y z p = grind (arith, nat_tests)
 unprefixed : (bits : ℕ) (ds : List ℕ) → AllDigits 10 ds → reading bits ds ≡ after_sign bits ds
 unprefixed bits ds d = neither (get_or ds 0 0) (get_or ds 1 0) 48 120 98 _ _ _ (λ _. second ds d)
 
-every : (bits : ℕ) (text : List ℕ) (w : ℕ) → Text bits text w → reading bits text ≡ Some w
-every bits text w (plain {ds} {n} h lt) = unprefixed bits ds h.0.1 ∙ unsigned bits ds h.0.0 h.0.1 ∙ positive_told bits ds n h lt
-every bits text w (plus {ds} {n} h lt) = positive_told bits ds n h lt
-every bits text w (minus {ds} {n} h le) = negative_told bits ds n h le
-every bits text w (hexadecimal {ds} {n} h few lt) = pattern_told bits ds 16 ((bits + 3) / 4) n h few lt
-every bits text w (binary {ds} {n} h few lt) = pattern_told bits ds 2 bits n h few lt
+pub read_as : (bits : ℕ) (text : List ℕ) (w : ℕ) → Text bits text w → reading bits text ≡ Some w
+read_as bits text w (plain {ds} {n} h lt) = unprefixed bits ds h.0.1 ∙ unsigned bits ds h.0.0 h.0.1 ∙ positive_told bits ds n h lt
+read_as bits text w (plus {ds} {n} h lt) = positive_told bits ds n h lt
+read_as bits text w (minus {ds} {n} h le) = negative_told bits ds n h le
+read_as bits text w (hexadecimal {ds} {n} h few lt) = pattern_told bits ds 16 ((bits + 3) / 4) n h few lt
+read_as bits text w (binary {ds} {n} h few lt) = pattern_told bits ds 2 bits n h few lt
 
 -- what a text's first characters are, where they pass a test
 one_first : (a : ℕ) (text : List ℕ) → 0 < a → eqb (get_or text 0 0) a ≡ true → text ≡ a ∷ drop 1 text
@@ -83,14 +83,8 @@ module _ (bits : ℕ) (text : List ℕ) (w : ℕ) where
       (λ _. cond_both (eqb (get_or text 0 0) 45) _ _ Owed from_minus
       (λ _. cond_both (eqb (get_or text 0 0) 43) _ _ Owed from_plus (λ _. from_digits))))
 
-pub reads_texts : (bits : ℕ) (text : List ℕ) → ReadsTexts bits text (reading bits text)
-reads_texts bits text = record { every = every bits text; only = only bits text }
-
 pub told_texts : (bits : ℕ) (text : List ℕ) (r : Option ℕ) → r ≡ reading bits text → ReadsTexts bits text r
-told_texts bits text r is = rw is (reads_texts bits text)
-
-pub read_as : (bits : ℕ) (text : List ℕ) (w : ℕ) → Text bits text w → reading bits text ≡ Some w
-read_as = every
+told_texts bits text r is = rw is (record { every = read_as bits text; only = only bits text })
 
 below_half : (bits n : ℕ) → n < 2 ^ (bits - 1) → n < 2 ^ bits
 below_half bits n h = let le : bits - 1 ≤ bits = omega arith in let more : 2 ^ (bits - 1) ≤ 2 ^ bits = pow_mono le in omega arith

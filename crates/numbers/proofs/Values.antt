@@ -1,5 +1,5 @@
 -- Digits and the number that they write, both ways.
-use Rattle.std.proofs.Common.{◌≡◌, ℕ, ◌+◌, ◌-◌, ◌*◌, ◌%◌, ◌^◌, ◌<◌, ◌≤◌, Bool, true, false, cond, ltb, leb, List, [], ◌∷◌, length, Some, None, Option, sym, refl, ap, ◌∙◌, arith}
+use Rattle.std.proofs.Common.{◌≡◌, ℕ, ◌+◌, ◌-◌, ◌*◌, ◌%◌, ◌^◌, ◌<◌, ◌≤◌, Bool, true, false, cond, ltb, leb, List, [], ◌∷◌, length, Some, None, Option, sym, refl, ap, ◌∙◌}
 use Rattle.std.specs.Str.Parse.{AllDigits, digits_value, digits_value_after}
 use Rattle.std.specs.Char.{digit_value}
 use Rattle.std.proofs.lemmas.Bool.{lt-ltb, ltb-true, le-leb, leb-true, and_parts, and_from}
@@ -7,7 +7,7 @@ use Rattle.numbers.specs.Reading.{digits_from, taken_if, counted, pattern, posit
 use Rattle.numbers.specs.Texts.{Writes}
 
 pub none_not : {P : Type 0} (w : ℕ) → None ≡ Some w → P
-none_not w e = let z : ◌≡◌ {A = ℕ} 0 1 = cc in absurd (omega arith)
+none_not w e = absurd (cc)
 
 pub digits_told : (base acc : ℕ) (ds : List ℕ) → AllDigits base ds → digits_from base acc ds ≡ Some (digits_value_after base acc ds)
 digits_told base acc [] h = refl
@@ -44,7 +44,7 @@ taken_told base test word ds n h t =
 -- under a test on the number of digits
 guarded : {A : Type 0} (b : Bool) (x : Option A) (w : A) → cond b x None ≡ Some w → (b ≡ true) × (x ≡ Some w)
 guarded true x w e = (refl, e)
-guarded false x w e = let z : ◌≡◌ {A = ℕ} 0 1 = cc in absurd (omega arith)
+guarded false x w e = absurd (cc)
 
 module _ (bits : ℕ) (ds : List ℕ) where
   pub positive_told : (n : ℕ) → Writes 10 ds n → n < 2 ^ (bits - 1) → positive bits ds ≡ Some n

@@ -38,62 +38,45 @@ const BUDGET: u32 = 1_000_000;
 
 // Loads an image from its file and runs it.
 fn run_file<P: Port>(file: &[u8], port: &mut P) -> Result<Report, Refusal> {
-    let mut image = [0u16; 64];
-    let mut memory = [0u16; WORDS];
+    let mut image = [0; 64];
+    let mut memory = [0; WORDS];
     let mut machine = Machine::new();
     let count = read_image(file, &mut image)?;
-    machine.load(image.get(0..count).unwrap_or(&[]), &mut memory)?;
+    machine.load(&image[..count], &mut memory)?;
     Ok(machine.run(BUDGET, &mut memory, port)?)
 }
 
 // Writes an image in its file form, and runs it from there.
 fn run_image<P: Port>(image: &[u16], port: &mut P) -> Result<Report, Refusal> {
-    let mut file = [0u8; 64];
+    let mut file = [0; 64];
     let length = write_image(image, &mut file)?;
-    run_file(file.get(0..length).unwrap_or(&[]), port)
+    run_file(&file[..length], port)
 }
 
-// Runs the door program over the recorded text, if it is one.
-fn over_text(text: &[u8], lines: &mut [u8]) -> Result<(usize, Report), Refusal> {
+// Runs the door program over a port of the recorded text, if it is one.
+fn run_door<P: Port>(text: &[u8], port: &mut P) -> Result<Report, Refusal> {
     check_text(text)?;
-    let mut port = TextPort::new(text, lines);
-    let report = run_image(&DOOR, &mut port)?;
-    Ok((port.written().len(), report))
-}
-
-fn over_polarity(text: &[u8], lines: &mut [u8]) -> Result<(usize, Report), Refusal> {
-    check_text(text)?;
-    let mut port = Polarity::new(TextPort::new(text, lines), 0xFFFF);
-    let report = run_image(&DOOR, &mut port)?;
-    Ok((port.below().written().len(), report))
+    run_image(&DOOR, port)
 }
 
 fn show_refusal(rt: &HostRuntime, refusal: Refusal) -> io::Result<()> {
-    let mut line = [0u8; 64];
+    let mut line = [0; 64];
     match write_refusal(refusal, &mut line) {
-        Ok(length) => rt.stdout().write_all(line.get(0..length).unwrap_or(&[])),
+        Ok(length) => rt.stdout().write_all(&line[..length]),
         Err(_) => Ok(()),
     }
-}
-
-fn show_stop(rt: &HostRuntime, report: Report) -> io::Result<()> {
-    let stop = report.stop.number();
-    let cycles = report.cycles;
-    println!(rt; "stop {stop} cycles {cycles}")
 }
 
 fn show(
     rt: &HostRuntime,
     title: &str,
     lines: &[u8],
-    outcome: Result<(usize, Report), Refusal>,
+    outcome: Result<Report, Refusal>,
 ) -> io::Result<()> {
     println!(rt; "{title}")?;
+    rt.stdout().write_all(lines)?;
     match outcome {
-        Ok((length, report)) => {
-            rt.stdout().write_all(lines.get(0..length).unwrap_or(&[]))?;
-            show_stop(rt, report)
-        }
+        Ok(report) => println!(rt; "stop {} cycles {}", report.stop.number(), report.cycles),
         Err(refusal) => show_refusal(rt, refusal),
     }
 }
@@ -104,22 +87,37 @@ fn show_words(
     words: &[u16],
     outcome: Result<Report, Refusal>,
 ) -> io::Result<()> {
-    println!(rt; "{title}")?;
+    let mut lines = String::new(rt.alloc());
     for word in words {
-        println!(rt; "{word:04x}")?;
+        writeln!(lines, "{word:04x}")?;
     }
-    match outcome {
-        Ok(report) => show_stop(rt, report),
-        Err(refusal) => show_refusal(rt, refusal),
-    }
+    show(rt, title, lines.as_bytes(), outcome)
+}
+
+fn replay_door(rt: &HostRuntime, text: &[u8], lines: &mut [u8]) -> io::Result<()> {
+    let mut port = TextPort::new(text, lines);
+    let outcome = run_door(text, &mut port);
+    show(
+        rt,
+        "door switches from the recorded text",
+        port.written(),
+        outcome,
+    )?;
+    let mut port = Polarity::new(TextPort::new(text, lines), 0xFFFF);
+    let outcome = run_door(text, &mut port);
+    show(
+        rt,
+        "the same under polarity",
+        port.below().written(),
+        outcome,
+    )
 }
 
 fn count_down(rt: &HostRuntime) -> io::Result<()> {
-    let mut sent = [0u16; 8];
+    let mut sent = [0; 8];
     let mut tape = Tape::new(&[], &mut sent);
     let outcome = run_image(&COUNT_DOWN, &mut tape);
     show_words(rt, "count-down over a tape", tape.sent(), outcome)?;
-    let mut sent = [0u16; 8];
     let mut port = Polarity::new(Tape::new(&[], &mut sent), 0xFFFF);
     let outcome = run_image(&COUNT_DOWN, &mut port);
     show_words(
@@ -133,11 +131,8 @@ fn count_down(rt: &HostRuntime) -> io::Result<()> {
 fn main(rt: HostRuntime) -> io::Result<()> {
     let mut text = Vec::new(rt.alloc());
     rt.stdin().read_to_end(&mut text)?;
-    let mut lines = vec![in rt.alloc(); 0u8; 50_000]?;
-    let outcome = over_text(&text, &mut lines);
-    show(&rt, "door switches from the recorded text", &lines, outcome)?;
-    let outcome = over_polarity(&text, &mut lines);
-    show(&rt, "the same under polarity", &lines, outcome)?;
+    let mut lines = vec![in rt.alloc(); 0; 50_000]?;
+    replay_door(&rt, &text, &mut lines)?;
     count_down(&rt)?;
     println!(rt;
         "replayed the recording through the door image and the count-down image, each also under polarity"

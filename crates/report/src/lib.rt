@@ -1,8 +1,8 @@
 // The text that programs print, formed into lent buffers.
 #![tactic(auto)]
 
-ghost use Rattle.std.specs.Prelude.{◌≡◌, length, decimal};
-ghost use Rattle.buffers.specs.Pages.{held};
+ghost use Rattle.std.specs.Prelude.{◌≡◌, ◌≤◌, length, decimal, IfOk};
+ghost use Rattle.buffers.specs.Pages.{held, loan_of};
 ghost use Rattle.report.specs.Adding.{Added};
 ghost use Rattle.report.specs.Lines.{number_of, place_of, refusal_line, printing};
 ghost use Rattle.report.specs.declared.Refusal.TheVariants.{Machine as by_machine, File as by_file, Text as by_text};
@@ -61,7 +61,7 @@ impl Refusal {
 
 // Appends the usual digits of a number.
 fn append_decimal(n: u64, page: &mut Page<'_>) -> Result<(), Short>
-    ensures buffer { page.new.buffer.ghost_name ≡ page.old.buffer.ghost_name }
+    ensures loan { loan_of page.new ≡ loan_of page.old }
     ensures added { Added (decimal n) (held page.old) result (held page.new) }
 {
     page.append(write_decimal(n, &mut [0; 20]))
@@ -69,7 +69,7 @@ fn append_decimal(n: u64, page: &mut Page<'_>) -> Result<(), Short>
 
 // Appends what stands behind a refusal's number.
 fn append_place(refusal: Refusal, page: &mut Page<'_>) -> Result<(), Short>
-    ensures buffer { page.new.buffer.ghost_name ≡ page.old.buffer.ghost_name }
+    ensures loan { loan_of page.new ≡ loan_of page.old }
     ensures added { Added (place_of refusal) (held page.old) result (held page.new) }
 {
     match refusal {
@@ -84,7 +84,7 @@ fn append_place(refusal: Refusal, page: &mut Page<'_>) -> Result<(), Short>
 }
 
 fn append_refusal(refusal: Refusal, page: &mut Page<'_>) -> Result<(), Short>
-    ensures buffer { page.new.buffer.ghost_name ≡ page.old.buffer.ghost_name }
+    ensures loan { loan_of page.new ≡ loan_of page.old }
     ensures added { Added (refusal_line refusal) (held page.old) result (held page.new) }
 {
     page.append(b"refused ")?;
@@ -97,6 +97,7 @@ fn append_refusal(refusal: Refusal, page: &mut Page<'_>) -> Result<(), Short>
 pub fn write_refusal(refusal: Refusal, out: &mut [u8]) -> Result<usize, Short>
     ensures answer { result ≡ (printing (refusal_line refusal) (length out.old)).answer }
     ensures after { out.new ≡ (printing (refusal_line refusal) (length out.old)).after }
+    ensures within { IfOk result (λ n. n ≤ length out.old) }
 {
     out.fill(0);
     let mut page = Page::new(out);

@@ -22,7 +22,7 @@ returns-then-count-image c =
     let even : length rest % 2 ≡ 0 = rw (← behind) (sym c.as_chunks.ensures.back_len ∙ search rules) in
     let half : length c.as_chunks.result.0.now ≡ length rest / 2 = rw (← behind) c.as_chunks.ensures.front_len in
     let shown = refused_reading bytes rest n _ headed even half _ (elim c.then-count-image.either [ inl over ↦ inl (omega arith) | inr over ↦ inr over.1 ]) zeros in
-    record { answer = shown.0; after = shown.1; written_by = shown.2 }
+    record { answer = shown.0; after = shown.1; within = tt; written_by = shown.2 }
 
 pub returns : goal.returns
 returns c =
@@ -42,4 +42,4 @@ returns c =
     let filled : c.read_words.new.words ++ drop count c.fill.new.self ≡ padded (words_of rest) n =
     rw (words, zeros) (padded_over (words_of rest) n count (omega (arith, half, length_words_of rest))) in
     let shown = accepted_reading bytes rest n count headed even half _ (All-drop (λ b. b < 256) 5 bytes small) (omega arith) c.if-count-gt-MOST_WORDS.false filled in
-    record { answer = shown.0; after = shown.1; written_by = shown.2 }
+    record { answer = shown.0; after = shown.1; within = omega arith; written_by = shown.2 }

@@ -26,4 +26,4 @@ returns c =
     ∙ overlaid_from_copy 5 (end - 5) (padded head n) _ (bytes_of image) c.write_words.ensures (omega (arith, length_bytes_of image))
     ∙ overlaid_padded head (bytes_of image) n in
     let shown = accepted_writing image n end _ c.if-image-gt-MOST_WORDS.false (omega arith) (omega arith) filled in
-    record { answer = shown.0; after = shown.1; reads_back = shown.2 }
+    record { answer = shown.0; after = shown.1; within = omega arith; reads_back = shown.2 }

@@ -8,9 +8,8 @@ mod tests {
     use std::test::Fail;
     use text_port::{Refusal, TextPort, check_text};
 
-    // The text is accepted, and gives these words and no more.
-    fn read(rt: &impl Abort, text: &[u8], words: &[u16]) {
-        assert_eq!(rt; check_text(text), Ok(()));
+    // These words of a text wait, and no more.
+    fn waits(rt: &impl Abort, text: &[u8], words: &[u16]) {
         let mut port = TextPort::new(text, &mut []);
         assert_eq!(rt; port.count_waiting(), words.len());
         for word in words {
@@ -19,13 +18,17 @@ mod tests {
         assert_eq!(rt; port.take().ok(), None);
     }
 
+    // The text is accepted, and gives these words and no more.
+    fn read(rt: &impl Abort, text: &[u8], words: &[u16]) {
+        assert_eq!(rt; check_text(text), Ok(()));
+        waits(rt, text, words);
+    }
+
     // The text is refused, and no word of it waits.
     fn refused(rt: &impl Abort, text: &[u8], refusal: Refusal, number: u8) {
         assert_eq!(rt; check_text(text), Err(refusal));
         assert_eq!(rt; refusal.number(), number);
-        let mut port = TextPort::new(text, &mut []);
-        assert_eq!(rt; port.count_waiting(), 0);
-        assert_eq!(rt; port.take().ok(), None);
+        waits(rt, text, &[]);
     }
 
     fn bad_token(rt: &impl Abort, text: &[u8], at: usize) {

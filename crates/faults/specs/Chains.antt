@@ -20,15 +20,6 @@ abbrev pub gathered : {X E : Type 0} → List (Result X E) → Result (List X) E
 gathered [] = Ok []
 gathered (r ∷ rs) = then r (λ x. then (gathered rs) (λ xs. Ok (x ∷ xs)))
 
--- the values before the first fault
-abbrev pub before_fault : {X E : Type 0} → Result X E → List X → List X
-before_fault (Ok x) xs = x ∷ xs
-before_fault (Err e) xs = []
-
-abbrev pub good : {X E : Type 0} → List (Result X E) → List X
-good [] = []
-good (r ∷ rs) = before_fault r (good rs)
-
 -- the values, and the first fault behind them
 abbrev pub up_to_fault : {X E : Type 0} → List (Result X E) → List (Result X E)
 up_to_fault [] = []

@@ -43,6 +43,7 @@ fn read_escape(b: u8) -> Result<u8, StatementFault>
     }
 }
 
+// A text of which only the closing quote is left.
 const CLOSED: &[u8] = b"\"";
 
 /// The bytes of a string behind its opening quote. Behind a fault nothing is left.

@@ -1,11 +1,12 @@
 -- The values of a `.fill` and the text of a `.cstr`, counted.
 use Rattle.std.proofs.Common.{◌≡◌, ℕ, suc, ◌+◌, ◌-◌, ◌≤◌, Bool, true, false, cond, eqb, arith, List, [], ◌∷◌, map, length, get_or, take, drop, Ok, Err, Result, sym, refl, ap, ◌∙◌}
+use Rattle.std.specs.Result.{ok_prefix}
 use Rattle.std.proofs.lemmas.List.{take_rest, length-map}
 use Rattle.std.proofs.lemmas.Bool.{ne_eqb}
 use Rattle.faults.specs.declared.OperandFault.{OperandFault}
 use Rattle.faults.specs.declared.StatementFault.{StatementFault}
 use Rattle.faults.specs.declared.StatementFault.TheVariants.{Malformed, InOperand}
-use Rattle.faults.specs.Chains.{and_then, then, under, gathered, good, before_fault}
+use Rattle.faults.specs.Chains.{and_then, then, under, gathered}
 use Rattle.faults.proofs.Gathers.{counted, counted_fault}
 use Rattle.operands.specs.declared.Immediate.{Immediate}
 use Rattle.pieces.specs.Pieces.{joined, begun, pieces}
@@ -30,38 +31,39 @@ few_parts s (c ∷ cs) = by (gap s c) (begun after gap (after s c) cs) (pieces a
     by false true (p ∷ ps) h = omega arith
     by false false ps h = omega arith
 
-few_good : {X E : Type 0} (r : Result X E) (xs : List X) (n : ℕ) → length xs ≤ n → length (before_fault r xs) ≤ suc n
-few_good (Ok x) xs n h = omega arith
-few_good (Err e) xs n h = omega arith
-
-few_all : {X E : Type 0} (rs : List (Result X E)) → length (good rs) ≤ length rs
+few_all : {X E : Type 0} (rs : List (Result X E)) → length (ok_prefix rs) ≤ length rs
 few_all [] = omega arith
-few_all (r ∷ rs) = few_good r (good rs) (length rs) (few_all rs)
+few_all (Ok x ∷ rs) = (let more = few_all rs in omega arith)
+few_all (Err e ∷ rs) = omega arith
 
-pub few_values : (cs : List ℕ) → length (good (values cs)) ≤ length cs
+few_more : {X E : Type 0} (r : Result X E) (rs : List (Result X E)) (n : ℕ) → length (ok_prefix rs) ≤ n → length (ok_prefix (r ∷ rs)) ≤ suc n
+few_more (Ok x) rs n h = omega arith
+few_more (Err e) rs n h = omega arith
+
+pub few_values : (cs : List ℕ) → length (ok_prefix (values cs)) ≤ length cs
 few_values cs = omega (arith, few_all (values cs), length-map (parts cs) (immediate 16), few_parts Outside cs)
 
-pub few_characters : (cs : List ℕ) → length (good (characters cs)) ≤ length cs
+pub few_characters : (cs : List ℕ) → length (ok_prefix (characters cs)) ≤ length cs
 few_characters [] = omega arith
 few_characters (c ∷ []) = by (eqb c 34) (eqb c 92)
   where
-    by : (a b : Bool) → length (good (cond a [] (cond b (Err Malformed ∷ []) (Ok c ∷ Err Malformed ∷ [])))) ≤ 1
+    by : (a b : Bool) → length (ok_prefix (cond a [] (cond b (Err Malformed ∷ []) (Ok c ∷ Err Malformed ∷ [])))) ≤ 1
     by true b = omega arith
     by false true = omega arith
     by false false = omega arith
 few_characters (c ∷ d ∷ ds) = by (eqb c 34) (eqb c 92) (few_characters ds) (few_characters (d ∷ ds))
   where
-    by : (a b : Bool) → length (good (characters ds)) ≤ length ds → length (good (characters (d ∷ ds))) ≤ suc (length ds)
-        → length (good (cond a (Err Malformed ∷ []) (cond b (escaped d ∷ characters ds) (Ok c ∷ characters (d ∷ ds))))) ≤ suc (suc (length ds))
+    by : (a b : Bool) → length (ok_prefix (characters ds)) ≤ length ds → length (ok_prefix (characters (d ∷ ds))) ≤ suc (length ds)
+        → length (ok_prefix (cond a (Err Malformed ∷ []) (cond b (escaped d ∷ characters ds) (Ok c ∷ characters (d ∷ ds))))) ≤ suc (suc (length ds))
     by true b h k = omega arith
-    by false true h k = (let one = few_good (escaped d) (good (characters ds)) (length ds) h in omega arith)
+    by false true h k = (let one = few_more (escaped d) (characters ds) (length ds) h in omega arith)
     by false false h k = omega arith
 
 module _ (fs : List (List ℕ)) (some : Ok tt ≡ some_fields fs) where
-  pub values_taken : (n : ℕ) → Ok n ≡ under length (gathered (map (immediate 16) fs)) → Ok (good (map (immediate 16) fs), n) ≡ under numbered (all_values fs)
+  pub values_taken : (n : ℕ) → Ok n ≡ under length (gathered (map (immediate 16) fs)) → Ok (ok_prefix (map (immediate 16) fs), n) ≡ under numbered (all_values fs)
   values_taken n h =
       let c = counted n (map (immediate 16) fs) h in
-      ap (λ k. Ok (good (map (immediate 16) fs), k)) c.many
+      ap (λ k. Ok (ok_prefix (map (immediate 16) fs), k)) c.many
       ∙ sym (ap (λ g. under numbered (and_then g InOperand (λ vs. Ok vs))) c.all)
       ∙ ap (λ s. under numbered (then s (λ done. and_then (gathered (map (immediate 16) fs)) InOperand (λ vs. Ok vs)))) some
 
@@ -81,10 +83,10 @@ module _ (fs rest : List (List ℕ)) (f : List ℕ) (first : fs ≡ f ∷ rest) 
   pub not_quoted : (get_or f 0 0 ≡ 34 → ⊥) → Err Malformed ≡ under terminated (string fs)
   not_quoted n = sym (ap (λ l. under terminated (string l)) first ∙ sym (ap (λ s. under terminated (then s (λ done. string (f ∷ [])))) last) ∙ rw (ne_eqb (get_or f 0 0) 34 n))
 
-  pub text_taken : get_or f 0 0 ≡ 34 → (n : ℕ) → Ok n ≡ under length (gathered (characters (take (length f - 1) (drop 1 f)))) → Ok (good (characters (take (length f - 1) (drop 1 f))), n + 1) ≡ under terminated (string fs)
+  pub text_taken : get_or f 0 0 ≡ 34 → (n : ℕ) → Ok n ≡ under length (gathered (characters (take (length f - 1) (drop 1 f)))) → Ok (ok_prefix (characters (take (length f - 1) (drop 1 f))), n + 1) ≡ under terminated (string fs)
   text_taken q n h =
       let c = counted n (characters (take (length f - 1) (drop 1 f))) h in
-      ap (λ k. Ok (good (characters (take (length f - 1) (drop 1 f))), k + 1)) c.many
+      ap (λ k. Ok (ok_prefix (characters (take (length f - 1) (drop 1 f))), k + 1)) c.many
       ∙ sym (ap (under terminated) (quoted q ∙ c.all))
 
   pub text_fault : get_or f 0 0 ≡ 34 → (e : StatementFault) → Err e ≡ under length (gathered (characters (take (length f - 1) (drop 1 f)))) → Err e ≡ under terminated (string fs)

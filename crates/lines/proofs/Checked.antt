@@ -5,7 +5,7 @@ use Rattle.pieces.specs.Pieces.{joined, begun, pieces}
 use Rattle.lines.specs.declared.Place.{Place}
 use Rattle.lines.specs.declared.Place.TheVariants.{Outside, Text, Escape, Comment}
 use Rattle.lines.specs.Places.{after, allows, allowed_from, allowed, gap, parts}
-use Rattle.lines.proofs.Firsts.{Open, kinds, white_stays, stays_open}
+use Rattle.lines.specs.Cuts.{Open, kinds, white_stays, stays_open}
 use Rattle.lines.proofs.Spaces.{comment_none}
 
 abbrev pub AllAllowed : List (List ℕ) → Type 0

@@ -1,7 +1,8 @@
 -- White space and comments that change no part.
-use Rattle.std.proofs.Common.{◌≡◌, ℕ, Bool, true, false, not, ◌&&◌, List, [], ◌∷◌, ◌++◌, sym, refl, ap, ◌∙◌}
+use Rattle.std.proofs.Common.{◌≡◌, ℕ, true, false, not, ◌&&◌, List, [], ◌∷◌, ◌++◌, sym, refl, ap, ◌∙◌}
 use Rattle.std.proofs.lemmas.List.{append-nil}
 use Rattle.std.proofs.lemmas.Bool.{or_left}
+use Rattle.std.proofs.Math.Bool.{and_assoc}
 use Rattle.pieces.specs.Pieces.{white, behind, begun, pieces}
 use Rattle.pieces.specs.Laws.{Each}
 use Rattle.pieces.proofs.Cuts.{behind_gaps, behind_front}
@@ -9,7 +10,7 @@ use Rattle.lines.specs.declared.Place.{Place}
 use Rattle.lines.specs.declared.Place.TheVariants.{Outside, Comment}
 use Rattle.lines.specs.Places.{after, allows, allowed_from, allowed, gap, parts}
 use Rattle.lines.specs.Laws.{White, EndsOutside, between, at_start, at_end, comment, Alike, SpaceLaw}
-use Rattle.lines.proofs.Firsts.{white_stays}
+use Rattle.lines.specs.Cuts.{white_stays}
 
 white_allowed : (c : ℕ) → white c ≡ true → allows Outside c ≡ true
 white_allowed c w = or_left (white c) _ w
@@ -28,11 +29,7 @@ whites_gap (w ∷ ws) h = (white_gap w h.0, rw (white_stays w h.0) (whites_gap w
 -- the check of a front and of the rest behind it
 check_append : (p : Place) (front rest : List ℕ) → allowed_from p (front ++ rest) ≡ (allowed_from p front && allowed_from (behind after p front) rest)
 check_append p [] rest = refl
-check_append p (c ∷ cs) rest = ap (λ t. allows p c && t) (check_append (after p c) cs rest) ∙ and_assoc (allows p c) _ _
-  where
-    and_assoc : (x y z : Bool) → (x && (y && z)) ≡ ((x && y) && z)
-    and_assoc true y z = refl
-    and_assoc false y z = refl
+check_append p (c ∷ cs) rest = ap (λ t. allows p c && t) (check_append (after p c) cs rest) ∙ sym (and_assoc (allows p c) _ _)
 
 whites_pass : (ws rest : List ℕ) → White ws → allowed (ws ++ rest) ≡ allowed rest
 whites_pass [] rest h = refl

@@ -1,5 +1,6 @@
 -- The laws of lines and of parts.
 use Rattle.std.proofs.Common.{◌≡◌, ℕ, Bool, true, false, eqb, ◌⊎◌, List, [], ◌∷◌, ◌++◌, sym, refl, ap, ◌∙◌, inl, inr, ⊎_elim}
+use Rattle.std.specs.List.{concat}
 use Rattle.std.proofs.lemmas.List.{append_assoc}
 use Rattle.std.proofs.lemmas.Bool.{cases_Bool, eqb-true}
 use Rattle.pieces.specs.Pieces.{joined, begun, pieces}
@@ -8,7 +9,7 @@ use Rattle.lines.specs.declared.Place.{Place}
 use Rattle.lines.specs.declared.Place.TheVariants.{Outside}
 use Rattle.lines.specs.Lines.{lines, ended}
 use Rattle.lines.specs.Places.{after, gap}
-use Rattle.lines.specs.Laws.{OneLine, EachOneLine, LineLaws, kept_from, flat, PartLaws}
+use Rattle.lines.specs.Laws.{OneLine, EachOneLine, LineLaws, kept_from, PartLaws}
 
 -- a byte at the front of the first line
 at_front : (c : ℕ) (l : List ℕ) (ls : List (List ℕ)) → ended (joined c true (l ∷ ls)) ≡ c ∷ ended (l ∷ ls)
@@ -85,17 +86,17 @@ found_last (l ∷ ls) c cs h k =
 pub line_laws : LineLaws
 line_laws = record { whole = whole; single = single; found = found; found_last = found_last }
 
-flat_joined : (c : ℕ) (b : Bool) (ps : List (List ℕ)) → flat (joined c b ps) ≡ c ∷ flat ps
-flat_joined c true [] = refl
-flat_joined c true (p ∷ ps) = refl
-flat_joined c false ps = refl
+concat_joined : (c : ℕ) (b : Bool) (ps : List (List ℕ)) → concat (joined c b ps) ≡ c ∷ concat ps
+concat_joined c true [] = refl
+concat_joined c true (p ∷ ps) = refl
+concat_joined c false ps = refl
 
-kept : (p : Place) (line : List ℕ) → flat (pieces after gap p line) ≡ kept_from p line
+kept : (p : Place) (line : List ℕ) → concat (pieces after gap p line) ≡ kept_from p line
 kept p [] = refl
 kept p (c ∷ cs) =
     ⊎_elim
     (λ e. rw e (kept (after p c) cs))
-    (λ e. rw e (flat_joined c (begun after gap (after p c) cs) (pieces after gap (after p c) cs) ∙ ap (λ l. c ∷ l) (kept (after p c) cs)))
+    (λ e. rw e (concat_joined c (begun after gap (after p c) cs) (pieces after gap (after p c) cs) ∙ ap (λ l. c ∷ l) (kept (after p c) cs)))
     (cases_Bool (gap p c))
 
 pub part_laws : PartLaws

@@ -1,5 +1,6 @@
 -- What lines and parts are, told without the scan that finds them. Assumes nothing.
 use Rattle.std.specs.Prelude.{◌≡◌, ℕ, true, false, cond, ◌⊎◌, List, [], ◌∷◌, ◌++◌, ◌==◌}
+use Rattle.std.specs.List.{concat}
 use Rattle.pieces.specs.Pieces.{white, behind}
 use Rattle.pieces.specs.Laws.{PieceLaws}
 use Rattle.lines.specs.Lines.{lines, ended}
@@ -30,14 +31,9 @@ abbrev pub kept_from : Place → List ℕ → List ℕ
 kept_from p [] = []
 kept_from p (c ∷ cs) = cond (gap p c) (kept_from (after p c) cs) (c ∷ kept_from (after p c) cs)
 
--- parts put end to end
-abbrev pub flat : List (List ℕ) → List ℕ
-flat [] = []
-flat (p ∷ ps) = p ++ flat ps
-
 pub record PartLaws : Type 0 where
   -- the parts of a line are its bytes before the comment less the white space outside strings
-  pub kept : (line : List ℕ) → flat (parts line) ≡ kept_from Outside line
+  pub kept : (line : List ℕ) → concat (parts line) ≡ kept_from Outside line
   -- they are cut just where such white space stands
   pub cut : PieceLaws after gap
 

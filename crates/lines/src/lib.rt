@@ -1,17 +1,17 @@
 // The lines of a source, which bytes may stand in a line, and the parts of a line.
 #![tactic(auto)]
 
-ghost use Rattle.std.specs.Prelude.{◌≡◌, ◌≤◌, not, length, nat_eq};
+ghost use Rattle.std.specs.Prelude.{◌≡◌, length, nat_eq};
 ghost use Rattle.std.specs.Iterator.{YieldsFirstRef, at_most};
 ghost use Rattle.std.specs.List.{position};
-ghost use Rattle.pieces.specs.Pieces.{run_len};
 ghost use Rattle.pieces.specs.Cursors.{Cut};
 ghost use Rattle.lines.specs.Lines.{lines};
-ghost use Rattle.lines.specs.Places.{after, allows, allowed, gap, parts};
+ghost use Rattle.lines.specs.Places.{after, allows, allowed, gap};
 ghost use Rattle.lines.specs.Laws.{LineLaws, PartLaws, SpaceLaw};
 ghost use Rattle.lines.specs.declared.Place.TheVariants.{Outside};
+ghost use Rattle.lines.specs.Cuts.{place_laws};
 
-use pieces::is_white;
+use pieces::{Gaps, Pieces, is_white};
 
 /// Where a byte of a line stands.
 #[derive(Clone, Copy)]
@@ -25,9 +25,31 @@ pub enum Place {
 }
 
 impl Place {
-    fn next(self, b: u8) -> Place
-        ensures { result ≡ after self b }
+    fn allows(self, b: u8) -> bool
+        ensures { result ≡ allows self b }
     {
+        match self {
+            Place::Outside => is_white(b) || (b >= 0x21 && b <= 0x7E),
+            Place::Text | Place::Escape => b >= 0x20 && b <= 0x7E,
+            Place::Comment => true,
+        }
+    }
+}
+
+impl Gaps for Place {
+    ghost start = { Outside };
+
+    ghost next = { after };
+
+    ghost is_gap = { gap };
+
+    ghost laws = { place_laws };
+
+    fn start() -> Self {
+        Self::Outside
+    }
+
+    fn next(self, b: u8) -> Self {
         match (self, b) {
             (Place::Outside, b'"') => Place::Text,
             (Place::Outside, b'#') => Place::Comment,
@@ -39,20 +61,7 @@ impl Place {
         }
     }
 
-    fn allows(self, b: u8) -> bool
-        ensures { result ≡ allows self b }
-    {
-        match self {
-            Place::Outside => is_white(b) || (b >= 0x21 && b <= 0x7E),
-            Place::Text | Place::Escape => b >= 0x20 && b <= 0x7E,
-            Place::Comment => true,
-        }
-    }
-
-    // Whether a byte there belongs to no part.
-    fn is_gap(self, b: u8) -> bool
-        ensures { result ≡ gap self b }
-    {
+    fn is_gap(self, b: u8) -> bool {
         match self {
             Place::Outside => is_white(b) || b == b'#',
             Place::Text | Place::Escape => false,
@@ -79,34 +88,6 @@ fn find_line_end(source: &[u8]) -> Option<usize>
     ensures { result ≡ position (λ c. nat_eq c 10) source.now }
 {
     source.iter().position(|b| *b == b'\n')
-}
-
-fn gap_len(text: &[u8]) -> usize
-    ensures is { result ≡ run_len after (λ p c. not (gap p c)) Outside text.now }
-    ensures within { result ≤ length text.now }
-{
-    let mut place = Place::Outside;
-    for (i, b) in text.iter().enumerate() {
-        if !place.is_gap(*b) {
-            return i;
-        }
-        place = place.next(*b);
-    }
-    text.len()
-}
-
-fn part_len(text: &[u8]) -> usize
-    ensures is { result ≡ run_len after gap Outside text.now }
-    ensures within { result ≤ length text.now }
-{
-    let mut place = Place::Outside;
-    for (i, b) in text.iter().enumerate() {
-        if place.is_gap(*b) {
-            return i;
-        }
-        place = place.next(*b);
-    }
-    text.len()
 }
 
 /// The first line of a source, without its end, and the source behind it.
@@ -141,44 +122,8 @@ impl<'a> Iterator for Lines<'a> {
     }
 }
 
-fn first_part(line: &[u8]) -> Option<(&[u8], &[u8])>
-    ensures { Cut parts line.now result }
-{
-    let text = &line[gap_len(line)..];
-    if text.is_empty() {
-        return None;
-    }
-    Some(text.split_at(part_len(text)))
-}
-
 /// The parts of what is left of a line, first to last.
-#[derive(Clone, Copy)]
-pub struct Parts<'a> {
-    pub rest: &'a [u8],
-}
-
-impl<'a> Parts<'a> {
-    /// The parts of a line.
-    pub fn new(line: &'a [u8]) -> Parts<'a>
-        ensures { result.rest.now ≡ line.now }
-    {
-        Parts { rest: line }
-    }
-}
-
-impl<'a> Iterator for Parts<'a> {
-    type Item = &'a [u8];
-
-    ghost next_gives = { YieldsFirstRef (λ s. parts s.rest.now) };
-
-    ghost remaining = { λ s. at_most (length s.rest.now) };
-
-    fn next(&mut self) -> Option<&'a [u8]> {
-        let (part, rest) = first_part(self.rest)?;
-        self.rest = rest;
-        Some(part)
-    }
-}
+pub type Parts<'a> = Pieces<'a, Place>;
 
 /// A theorem: what the lines of a source are.
 pub fn line_laws() -> u8

@@ -1,83 +1,27 @@
 -- The first piece of a text and the text behind it, and the laws of pieces.
-use Rattle.std.proofs.Common.{◌≡◌, ℕ, ◌<◌, Bool, true, false, cond, not, ◌⊎◌, List, [], ◌∷◌, ◌++◌, length, get_or, take, drop, sym, refl, ap, ◌∙◌, ⊎_elim, arith, length-drop}
-use Rattle.std.proofs.lemmas.List.{nil_from_length}
-use Rattle.std.proofs.lemmas.Bool.{cases_Bool}
-use Rattle.pieces.specs.Pieces.{behind, begun, joined, pieces, run_len}
-use Rattle.pieces.specs.Laws.{Each, PieceLaws}
+use Rattle.std.proofs.Common.{◌≡◌, ℕ, ◌+◌, ◌<◌, Bool, true, false, cond, not, List, [], ◌∷◌, ◌++◌, length, get_or, take, sym, refl, ap, ◌∙◌, arith, length-append}
+use Rattle.std.proofs.lemmas.List.{nil_from_length, take_more}
+use Rattle.std.proofs.lemmas.Bool.{false≢true}
+use Rattle.pieces.specs.Pieces.{behind, begun, joined, pieces}
+use Rattle.pieces.specs.Laws.{StopsAt, Each, PieceLaws, GapLaws}
 
 module _ {S : Type 0} (after : S → ℕ → S) (gap : S → ℕ → Bool) where
-  -- the gaps at the front, and the piece behind them
-  abbrev pub gaps_len : S → List ℕ → ℕ
-  gaps_len s xs = run_len after (λ t c. not (gap t c)) s xs
+  -- one byte more
+  behind_push : (s : S) (xs : List ℕ) (c : ℕ) → behind after s (xs ++ c ∷ []) ≡ after (behind after s xs) c
+  behind_push s [] c = refl
+  behind_push s (x ∷ xs) c = behind_push (after s x) xs c
 
-  abbrev pub piece_len : S → List ℕ → ℕ
-  piece_len s xs = run_len after gap s xs
+  each_push : (is : Bool) (s : S) (xs : List ℕ) (c : ℕ) → Each after gap is s xs → gap (behind after s xs) c ≡ is → Each after gap is s (xs ++ c ∷ [])
+  each_push is s [] c e h = (h, tt)
+  each_push is s (x ∷ xs) c e h = (e.0, each_push is (after s x) xs c e.1 h)
 
-  past_gaps : (s : S) (xs : List ℕ) → pieces after gap s xs ≡ pieces after gap (behind after s (take (gaps_len s xs) xs)) (drop (gaps_len s xs) xs)
-  past_gaps s [] = refl
-  past_gaps s (c ∷ cs) = ⊎_elim (λ e. rw e (past_gaps (after s c) cs)) (λ e. rw e (rw e refl)) (cases_Bool (gap s c))
+  -- a scan of xs that has not stopped before i
+  module _ (is : Bool) (start s : S) (xs : List ℕ) (i : ℕ) (each : Each after gap is start (take i xs)) (state : s ≡ behind after start (take i xs)) (lt : i < length xs) where
+    pub each_more : gap s (get_or xs i 0) ≡ is → Each after gap is start (take (i + 1) xs)
+    each_more h = rw (take_more xs i 0 lt) (each_push is start (take i xs) (get_or xs i 0) each (ap (λ t. gap t (get_or xs i 0)) (sym state) ∙ h))
 
-  no_gap : (s : S) (xs : List ℕ) → 0 < length (drop (gaps_len s xs) xs) → gap (behind after s (take (gaps_len s xs) xs)) (get_or (drop (gaps_len s xs) xs) 0 0) ≡ false
-  no_gap s [] h = absurd (omega arith)
-  no_gap s (c ∷ cs) h = ⊎_elim (λ e. rw e (no_gap (after s c) cs (rw e at h))) (λ e. rw e e) (cases_Bool (gap s c))
-
-  -- the first piece of what begins with no gap
-  first_piece : (s : S) (xs : List ℕ) → 0 < length xs → gap s (get_or xs 0 0) ≡ false
-      → pieces after gap s xs ≡ take (piece_len s xs) xs ∷ pieces after gap (behind after s (take (piece_len s xs) xs)) (drop (piece_len s xs) xs)
-  first_piece s [] h g = absurd (omega arith)
-  first_piece s (c ∷ []) h g = rw g
-  first_piece s (c ∷ d ∷ ds) h g =
-      rw g
-      (⊎_elim
-      (λ e. rw e (rw e refl))
-      (λ e. rw e (ap (joined c true) (rw e at (first_piece (after s c) (d ∷ ds) (omega arith) e))))
-      (cases_Bool (gap (after s c) d)))
-
-  first_long : (s : S) (xs : List ℕ) → 0 < length xs → gap s (get_or xs 0 0) ≡ false → 0 < piece_len s xs
-  first_long s [] h g = absurd (omega arith)
-  first_long s (c ∷ cs) h g = rw g (omega arith)
-
-  -- a state to which a cut comes back: behind gaps nothing stands or it stands there, and so it is behind a piece
-  module _ (home : S)
-      (settled : (xs : List ℕ) → (drop (gaps_len home xs) xs ≡ []) ⊎ (behind after home (take (gaps_len home xs) xs) ≡ home))
-      (ends : (xs : List ℕ) → pieces after gap (behind after home (take (piece_len home xs) xs)) (drop (piece_len home xs) xs) ≡ pieces after gap home (drop (piece_len home xs) xs)) where
-    -- ys is what stands behind the gaps
-    module _ (xs ys : List ℕ) (n : ℕ) (gaps_is : n ≡ gaps_len home xs) (ys_is : ys ≡ drop n xs) where
-      same : ys ≡ drop (gaps_len home xs) xs
-      same = ys_is ∙ ap (λ k. drop k xs) gaps_is
-
-      past : pieces after gap home xs ≡ pieces after gap home ys
-      past =
-          past_gaps home xs
-          ∙ ⊎_elim
-          (λ e. ap (pieces after gap (behind after home (take (gaps_len home xs) xs))) e ∙ sym (ap (pieces after gap home) e))
-          (λ e. ap (λ p. pieces after gap p (drop (gaps_len home xs) xs)) e)
-          (settled xs)
-          ∙ ap (pieces after gap home) (sym same)
-
-      pub no_piece : length ys ≡ 0 → pieces after gap home xs ≡ []
-      no_piece z = past ∙ ap (pieces after gap home) (nil_from_length ys z)
-
-      begins : 0 < length ys → gap home (get_or ys 0 0) ≡ false
-      begins some =
-          let h : 0 < length (drop (gaps_len home xs) xs) = rw same at some in
-          let free = no_gap home xs h in
-          ⊎_elim
-          (λ e. absurd (let z = ap length e in omega arith))
-          (λ e. ap (λ l. gap home (get_or l 0 0)) same ∙ sym (ap (λ p. gap p (get_or (drop (gaps_len home xs) xs) 0 0)) e) ∙ free)
-          (settled xs)
-
-      module _ (rest : List ℕ) (k : ℕ) (some : 0 < length ys) (k_is : k ≡ piece_len home ys) (rest_is : rest ≡ drop k ys) where
-        pub cut_piece : (piece : List ℕ) → piece ≡ take k ys → pieces after gap home xs ≡ piece ∷ pieces after gap home rest
-        cut_piece piece p =
-            past ∙ first_piece home ys some (begins some)
-            ∙ ap (λ ps. take (piece_len home ys) ys ∷ ps) (ends ys)
-            ∙ rw (p, rest_is, k_is)
-
-        pub cut_shorter : length rest < length xs
-        cut_shorter =
-            let long = first_long home ys some (begins some) in
-            omega (arith, ap length rest_is, length-drop k ys, ap length ys_is, length-drop n xs)
+    pub behind_more : after s (get_or xs i 0) ≡ behind after start (take (i + 1) xs)
+    behind_more = rw (take_more xs i 0 lt, behind_push, state)
 
   gaps_none : (s : S) (gs : List ℕ) → Each after gap true s gs → pieces after gap s gs ≡ []
   gaps_none s [] h = refl
@@ -94,6 +38,47 @@ module _ {S : Type 0} (after : S → ℕ → S) (gap : S → ℕ → Bool) where
       rw h.0
       (ap (λ t. joined c (not t) (pieces after gap (after s c) (d ∷ ds ++ rest))) h.1.0
       ∙ ap (joined c true) (one_piece (after s c) d ds rest h.1 b))
+
+  -- what stands where a scan stops
+  begun_free : (s : S) (ys : List ℕ) → 0 < length ys → StopsAt gap true s ys → begun after gap s ys ≡ true
+  begun_free s [] some h = absurd (omega arith)
+  begun_free s (c ∷ cs) some h = ap not h
+
+  not_begun : (s : S) (rest : List ℕ) → StopsAt gap false s rest → begun after gap s rest ≡ false
+  not_begun s [] h = refl
+  not_begun s (c ∷ cs) h = ap not h
+
+  some_piece : (s : S) (piece rest : List ℕ) → begun after gap s (piece ++ rest) ≡ true → begun after gap (behind after s piece) rest ≡ false → 0 < length piece
+  some_piece s [] rest t f = absurd (false≢true (sym f ∙ t))
+  some_piece s (c ∷ cs) rest t f = omega arith
+
+  the_piece : (s : S) (piece rest : List ℕ) → 0 < length piece → Each after gap false s piece → begun after gap (behind after s piece) rest ≡ false
+      → pieces after gap s (piece ++ rest) ≡ piece ∷ pieces after gap (behind after s piece) rest
+  the_piece s [] rest some e f = absurd (omega arith)
+  the_piece s (c ∷ cs) rest some e f = one_piece s c cs rest e f
+
+  -- ys is what stands behind the gaps
+  module _ (start : S) (xs gs ys : List ℕ) (xs_is : xs ≡ gs ++ ys) (gaps : Each after gap true start gs) where
+    past : pieces after gap start xs ≡ pieces after gap (behind after start gs) ys
+    past = ap (pieces after gap start) xs_is ∙ behind_gaps start gs ys gaps
+
+    pub no_piece : length ys ≡ 0 → pieces after gap start xs ≡ []
+    no_piece z = past ∙ ap (pieces after gap (behind after start gs)) (nil_from_length ys z)
+
+    pub cut_piece : GapLaws after gap start → 0 < length ys → StopsAt gap true (behind after start gs) ys
+        → (piece rest : List ℕ) → ys ≡ piece ++ rest → Each after gap false start piece → StopsAt gap false (behind after start piece) rest
+        → (pieces after gap start xs ≡ piece ∷ pieces after gap start rest) × (length rest < length xs)
+    cut_piece laws some free piece rest ys_is each stop =
+        let begins = begun_free (behind after start gs) ys some free in
+        let back = laws.gaps gs ys gaps begins in
+        let here : begun after gap start (piece ++ rest) ≡ true = ap (begun after gap start) (sym ys_is) ∙ ap (λ s. begun after gap s ys) (sym back) ∙ begins in
+        let ends = not_begun (behind after start piece) rest stop in
+        let long = some_piece start piece rest here ends in (
+          past ∙ ap (λ s. pieces after gap s ys) back ∙ ap (pieces after gap start) ys_is
+              ∙ the_piece start piece rest long each ends
+              ∙ ap (λ ps. piece ∷ ps) (laws.piece piece rest each ends),
+          omega (arith, ap length xs_is, length-append gs ys, ap length ys_is, length-append piece rest),
+        )
 
   -- two rests with the same pieces that begin alike, behind one front
   pub behind_front : (s : S) (front xs ys : List ℕ)

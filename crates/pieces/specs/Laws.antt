@@ -1,6 +1,11 @@
 -- What the pieces of a text are, told without recursion over its bytes. Assumes nothing.
-use Rattle.std.specs.Prelude.{◌≡◌, ℕ, Bool, true, false, List, [], ◌∷◌, ◌++◌}
+use Rattle.std.specs.Prelude.{◌≡◌, ℕ, Bool, true, false, not, List, [], ◌∷◌, ◌++◌}
 use Rattle.pieces.specs.Pieces.{behind, begun, pieces}
+
+-- a text ends, or its first byte is a gap or none, as told
+abbrev pub StopsAt : {S : Type 0} → (S → ℕ → Bool) → Bool → S → List ℕ → Type 0
+StopsAt gap is s [] = Unit {0}
+StopsAt gap is s (c ∷ cs) = gap s c ≡ not is
 
 module _ {S : Type 0} (after : S → ℕ → S) (gap : S → ℕ → Bool) where
   -- each byte is a gap, or each is none
@@ -18,3 +23,11 @@ module _ {S : Type 0} (after : S → ℕ → S) (gap : S → ℕ → Bool) where
         → Each false (behind after s gaps) (c ∷ cs)
         → begun after gap (behind after (behind after s gaps) (c ∷ cs)) rest ≡ false
         → pieces after gap s (gaps ++ ((c ∷ cs) ++ rest)) ≡ (c ∷ cs) ∷ pieces after gap (behind after (behind after s gaps) (c ∷ cs)) rest
+
+  -- these two let a text be cut behind any of its pieces
+  pub record GapLaws (start : S) : Type 0 where
+    -- where a piece begins behind gaps, the state is the start
+    pub gaps : (gs rest : List ℕ) → Each true start gs → begun after gap (behind after start gs) rest ≡ true → behind after start gs ≡ start
+    -- behind a piece, the pieces are those of a text that starts there
+    pub piece : (cs rest : List ℕ) → Each false start cs → begun after gap (behind after start cs) rest ≡ false
+        → pieces after gap (behind after start cs) rest ≡ pieces after gap start rest

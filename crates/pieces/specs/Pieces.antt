@@ -1,5 +1,5 @@
 -- The pieces of a text: the bytes that stand together with no gap among them. Assumes nothing.
-use Rattle.std.specs.Prelude.{ℕ, suc, Bool, true, false, cond, not, ◌||◌, List, [], ◌∷◌, ◌==◌}
+use Rattle.std.specs.Prelude.{ℕ, Bool, true, false, cond, not, ◌||◌, List, [], ◌∷◌, ◌==◌}
 
 -- white space: a space, a tab or a carriage return
 abbrev pub white : ℕ → Bool
@@ -28,13 +28,3 @@ module _ {S : Type 0} (after : S → ℕ → S) where
     abbrev pub pieces : S → List ℕ → List (List ℕ)
     pieces s [] = []
     pieces s (c ∷ cs) = cond (gap s c) (pieces (after s c) cs) (joined c (begun (after s c) cs) (pieces (after s c) cs))
-
-  module _ (stop : S → ℕ → Bool) where
-    -- how many bytes stand before the first at which a scan stops
-    abbrev pub run_len : S → List ℕ → ℕ
-    run_len s [] = 0
-    run_len s (c ∷ cs) = cond (stop s c) 0 (suc (run_len (after s c) cs))
-
--- how many bytes stand before the first that passes a test, whatever stands before it
-abbrev pub until : (ℕ → Bool) → List ℕ → ℕ
-until stop cs = run_len {S = Unit {0}} (λ s c. s) (λ s c. stop c) tt cs

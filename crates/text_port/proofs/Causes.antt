@@ -1,21 +1,17 @@
 -- The causes of a check's answers.
-use Rattle.std.proofs.Common.{◌≡◌, ℕ, zero, suc, ◌+◌, ◌<◌, ◌≤◌, ◌⊎◌, List, [], ◌∷◌, map, length, get_or, Some, None, Ok, Err, Option, Result, sym, refl, ap, ◌∙◌, inl, inr, ⊎_elim, arith}
+use Rattle.std.proofs.Common.{◌≡◌, ℕ, zero, suc, ◌+◌, ◌<◌, ◌≤◌, ◌⊎◌, List, [], ◌∷◌, map, length, get_or, Some, None, Ok, Err, Option, sym, refl, ap, ◌∙◌, inl, inr, ⊎_elim, arith}
 use Rattle.std.proofs.lemmas.Bool.{le-leb, lt-leb, cases_lt}
 use Rattle.numbers.specs.Reading.{reading}
 use Rattle.text_port.specs.Tokens.{tokens, before, words_of}
 use Rattle.text_port.specs.Checking.{first_of, judging, checking, Numbers, FirstBad, Caused}
-use Rattle.text_port.specs.declared.checks.Refusal.{Refusal}
 use Rattle.text_port.specs.declared.checks.Refusal.TheVariants.{Length, Token}
 
 cases_option : (o : Option ℕ) → (o ≡ None) ⊎ ((n : ℕ) × (o ≡ Some n))
 cases_option None = inl refl
 cases_option (Some n) = inr (n, refl)
 
-never_both : {P : Type 0} (o : Option ℕ) (n : ℕ) → o ≡ Some n → o ≡ None → P
-never_both o n p q = let z : ◌≡◌ {A = ℕ} 0 1 = cc in absurd (omega arith)
-
 one_more : (count : ℕ) (t : List ℕ) (ts : List (List ℕ)) (n : ℕ) → reading 16 t ≡ Some n → Numbers count ts → Numbers (suc count) (t ∷ ts)
-one_more count t ts n is good zero h e = never_both (reading 16 t) n is e
+one_more count t ts n is good zero h e = absurd cc
 one_more count t ts n is good (suc k) h e = good k (omega arith) e
 
 one_less : (count : ℕ) (t : List ℕ) (ts : List (List ℕ)) → Numbers (suc count) (t ∷ ts) → Numbers count ts
@@ -71,31 +67,23 @@ module _ (text : List ℕ) where
   by_cause : {P : Type 0} → (65536 < length text → P) → (length text ≤ 65536 → Numbers (length (tokens text)) (tokens text) → P) → (length text ≤ 65536 → (place : ℕ) → FirstBad (tokens text) place → P) → P
   by_cause l g b = ⊎_elim l (λ le. ⊎_elim (g le) (λ f. b le f.0 f.1) (found (tokens text))) (cases_lt 65536 (length text))
 
-unequal : {P : Type 0} {X Y : Type 0} {x : X} {y : Y} (r : Result X Y) → r ≡ Ok x → r ≡ Err y → P
-unequal r p q = let z : ◌≡◌ {A = ℕ} 0 1 = cc in absurd (omega arith)
-
-apart : {P : Type 0} {X : Type 0} (r : Result X Refusal) (at : ℕ) → r ≡ Err Length → r ≡ Err (Token at) → P
-apart r at p q = let z : ◌≡◌ {A = ℕ} 0 1 = cc in absurd (omega arith)
-
-same_token : {X : Type 0} (r : Result X Refusal) (a b : ℕ) → r ≡ Err (Token a) → r ≡ Err (Token b) → a ≡ b
-same_token r a b p q = cc
-
 pub caused : (text : List ℕ) → Caused text (checking text)
 caused text = record {
   long = when_long text;
-  if_long = λ e. by_cause text (λ h. h)
-      (λ le good. unequal (checking text) (when_good text le good) e)
-      (λ le place b. apart (checking text) (place + 1) e (when_bad text place le b));
+  if_long = λ e. by_cause text
+      (λ h. h)
+      (λ le good. absurd (cc (when_good text le good)))
+      (λ le place b. absurd (cc (when_bad text place le b)));
   bad = when_bad text;
   if_bad = λ at e. by_cause text
-      (λ h. apart (checking text) at (when_long text h) e)
-      (λ le good. unequal (checking text) (when_good text le good) e)
-      (λ le place b. (le, (place, same_token (checking text) at (place + 1) e (when_bad text place le b), b)));
+      (λ h. absurd (cc (when_long text h)))
+      (λ le good. absurd (cc (when_good text le good)))
+      (λ le place b. (le, (place, cc (when_bad text place le b), b)));
   good = when_good text;
   if_good = λ e. by_cause text
-      (λ h. unequal (checking text) e (when_long text h))
+      (λ h. absurd (cc (when_long text h)))
       (λ le good. (le, good))
-      (λ le place b. unequal (checking text) e (when_bad text place le b));
+      (λ le place b. absurd (cc (when_bad text place le b)));
 }
 
 -- where every token is a number, the words are as many

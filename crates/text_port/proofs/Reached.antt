@@ -1,6 +1,7 @@
 -- Where a text port that was new stands after any moves.
 use Rattle.std.proofs.Common.{◌≡◌, ℕ, ◌+◌, ◌*◌, ◌/◌, ◌<◌, ◌≤◌, List, [], ◌∷◌, ◌++◌, length, take, drop, sym, refl, ap, ◌∙◌, subst, ⊎_elim, arith}
 use Rattle.std.proofs.lemmas.List.{append_assoc, append-nil, length-append, length-drop, length_push, take_at, drop_at, drop-drop, take_all}
+use Rattle.std.proofs.lemmas.List.Concat.{flat_map-append}
 use Rattle.std.proofs.lemmas.Bool.{cases_lt}
 use Rattle.text_port.specs.Lines.{line, hex_lines}
 use Rattle.text_port.specs.Holding.{Held, front, means, unused, taking_one, writing}
@@ -8,8 +9,7 @@ use Rattle.text_port.specs.Laws.{Move, taken, sent_word, after, sends, Sent, Sen
 use Rattle.text_port.proofs.Sends.{with_line, when_full, when_room, one_sent}
 
 lines_push : (ws : List ℕ) (word : ℕ) → hex_lines (ws ++ word ∷ []) ≡ hex_lines ws ++ line word
-lines_push [] word = append-nil (line word)
-lines_push (w ∷ ws) word = ap (λ bs. line w ++ bs) (lines_push ws word) ∙ sym (append_assoc (line w) (hex_lines ws) (line word))
+lines_push ws word = flat_map-append line ws (word ∷ []) ∙ ap (λ l. hex_lines ws ++ l) (append-nil (line word))
 
 lines_length : (ws : List ℕ) → length (hex_lines ws) ≡ 5 * length ws
 lines_length [] = refl

@@ -48,21 +48,9 @@ sending_some : (places left : ℕ) (m : Meaning) (word : ℕ) → left + 1 ≡ p
 sending_some zero left m word e = absurd (omega arith)
 sending_some (suc places) left m word e = let same : places ≡ left = omega arith in rw same
 
-module _ (h : Held) (word : ℕ) (room : h.lines < length h.output / 5) where
-  given : sending (means h) word ≡ record { answer = Ok tt; after = record { waiting = (means h).waiting; sent = (means h).sent ++ word ∷ []; free = (means (with_line h word)).free } }
-  given = sending_some (means h).free (means (with_line h word)).free (means h) word (one_less h word room)
-
-  pub send_answer : Ok tt ≡ (sending (means h) word).answer
-  send_answer = sym (ap (λ g. g.answer) given)
-
-  pub send_after : word < 65536 → (new : List ℕ) → new ≡ over h.output (5 * h.lines) word
-      → means (record { left = h.left; output = new; lines = h.lines + 1 }) ≡ (sending (means h) word).after
-  send_after small new is =
-      ap (λ (out : List ℕ). means (record { left = h.left; output = out; lines = h.lines + 1 })) is
-      ∙ ap (λ (ws : List ℕ). record { waiting = (means h).waiting; sent = ws; free = (means (with_line h word)).free }) (one_sent h word room small)
-      ∙ sym (ap (λ g. g.after) given)
-
-  pub send_holds : (new : List ℕ) → new ≡ over h.output (5 * h.lines) word
-      → record { left = h.left; output = new; lines = h.lines + 1 } ≡ writing h word
-  send_holds new is =
-      ap (λ (out : List ℕ). record { left = h.left; output = out; lines = h.lines + 1 }) is ∙ sym (when_room h word room)
+pub send_after : (h : Held) (word : ℕ) → h.lines < length h.output / 5 → word < 65536 → (new : List ℕ) → new ≡ over h.output (5 * h.lines) word
+    → means (record { left = h.left; output = new; lines = h.lines + 1 }) ≡ (sending (means h) word).after
+send_after h word room small new is =
+    rw is
+    (ap (λ ws. record { waiting = (means h).waiting; sent = ws; free = (means (with_line h word)).free }) (one_sent h word room small)
+    ∙ sym (ap (λ g. g.after) (sending_some (means h).free (means (with_line h word)).free (means h) word (one_less h word room))))

@@ -1,20 +1,16 @@
 -- Lines, the words in them, and one line more.
 use Rattle.std.proofs.Common.{◌≡◌, ℕ, zero, suc, ◌*◌, ◌/◌, ◌%◌, ◌<◌, List, [], ◌∷◌, ◌++◌, length, ap, arith}
 use Rattle.std.specs.Str.Parse.{digits_value}
-use Rattle.std.specs.Char.{digit_value, digit_char}
-use Rattle.std.proofs.lemmas.Bool.Decides.{nat_tests}
+use Rattle.std.proofs.lemmas.Str.{digit_value-digit_char}
 use Rattle.numbers.specs.Hex.{hex4}
 use Rattle.text_port.specs.Lines.{line, words_in}
 
-digit_back : (d : ℕ) → d < 16 → digit_value (digit_char d) ≡ d
-digit_back d h = grind (arith, nat_tests)
-
 hex_value : (w : ℕ) → w < 65536 → digits_value 16 (hex4 w) ≡ w
 hex_value w h =
-    let a = digit_back (w / 4096) (omega arith) in
-    let b = digit_back (w / 256 % 16) (omega arith) in
-    let c = digit_back (w / 16 % 16) (omega arith) in
-    let d = digit_back (w % 16) (omega arith) in
+    let a = digit_value-digit_char (w / 4096) (omega arith) in
+    let b = digit_value-digit_char (w / 256 % 16) (omega arith) in
+    let c = digit_value-digit_char (w / 16 % 16) (omega arith) in
+    let d = digit_value-digit_char (w % 16) (omega arith) in
     simp (a, b, c, d) (omega arith)
 
 pub words_push : (k : ℕ) (xs : List ℕ) (w : ℕ) → length xs ≡ 5 * k → w < 65536 → words_in (xs ++ line w) ≡ words_in xs ++ w ∷ []

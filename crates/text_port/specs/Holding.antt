@@ -1,6 +1,7 @@
 -- What a text port holds, what that means as a port, and what taking a word and sending one do to it.
 -- Assumes nothing.
-use Rattle.std.specs.Prelude.{ℕ, ◌+◌, ◌-◌, ◌*◌, ◌/◌, cond, List, [], ◌∷◌, ◌++◌, length, take, drop, Some, None, Ok, Err, Option, Result, nat_le}
+use Rattle.std.specs.Prelude.{ℕ, ◌+◌, ◌-◌, ◌*◌, ◌/◌, cond, List, [], ◌∷◌, length, take, Some, None, Ok, Err, Option, Result, nat_le}
+use Rattle.std.specs.List.{splice}
 use Rattle.numbers.specs.Reading.{reading}
 use Rattle.port.specs.Meaning.{Meaning}
 use Rattle.text_port.specs.Tokens.{tokens, words_of}
@@ -18,7 +19,7 @@ pub record Held : Type 0 where
 -- what a text port holds
 abbrev pub held : TextPort → Held
 held port =
-    record { left = tokens port.rest.now; output = port.output.now; lines = port.lines }
+    record { left = tokens port.tokens.rest.now; output = port.output.now; lines = port.lines }
 
 -- the bytes of the lines written
 abbrev pub front : Held → List ℕ
@@ -62,7 +63,7 @@ taking_one h = record { left = less_one h.left; output = h.output; lines = h.lin
 
 -- a line written over the five bytes from a place on
 abbrev pub over : List ℕ → ℕ → ℕ → List ℕ
-over buffer at word = take at buffer ++ (line word ++ drop (at + 5) buffer)
+over buffer at word = splice buffer at (at + 5) (line word)
 
 -- one line more behind the lines, if five bytes are left; every other byte as it was, and the tokens too
 abbrev pub writing : Held → ℕ → Held

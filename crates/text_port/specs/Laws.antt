@@ -1,13 +1,18 @@
 -- What the tokens of a text are, and what a text port has written after any takes and sends. Assumes nothing.
 use Rattle.std.specs.Prelude.{◌≡◌, ℕ, ◌*◌, ◌/◌, ◌<◌, Bool, true, false, List, [], ◌∷◌, ◌++◌, length, take, drop}
-use Rattle.text_port.specs.Tokens.{gap, begun, tokens}
+use Rattle.pieces.specs.Pieces as pieces
+use Rattle.pieces.specs.Laws as of_pieces
+use Rattle.text_port.specs.Tokens.{gap, blanks, tokens}
 use Rattle.text_port.specs.Lines.{hex_lines}
 use Rattle.text_port.specs.Holding.{Held, front, means, unused, taking_one, writing}
 
 -- each byte is a gap, or each is none
 abbrev pub Each : Bool → List ℕ → Type 0
-Each is [] = Unit {0}
-Each is (c ∷ cs) = (gap c ≡ is) × Each is cs
+Each is text = of_pieces.Each (λ s c. s) (λ s c. gap c) is blanks text
+
+-- whether a text begins with a byte of a token
+abbrev pub begun : List ℕ → Bool
+begun text = pieces.begun (λ s c. s) (λ s c. gap c) blanks text
 
 -- these two say of every text what its tokens are
 pub record TokenLaws : Type 0 where

@@ -3,3 +3,4 @@ pub mod Checking
 pub mod Lines
 pub mod Holding
 pub mod Laws
+pub mod Cuts

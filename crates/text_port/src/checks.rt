@@ -2,9 +2,9 @@
 ghost use Rattle.std.specs.Prelude.{◌≡◌, ◌≤◌, length};
 ghost use Rattle.text_port.specs.Tokens.{tokens};
 ghost use Rattle.text_port.specs.Checking.{number_of, judging, checking, Caused};
+ghost use Rattle.text_port.specs.Holding.{accepted};
 
-use crate::cursor::Cursor;
-use numbers::{Width, read_number};
+use crate::tokens::{Tokens, read_word};
 
 /// Why a text is refused.
 #[derive(Clone, Copy, PartialEq, Eq, Debug)]
@@ -29,16 +29,10 @@ impl Refusal {
 
 // Whether every token of a text is a 16-bit number.
 fn check_tokens(text: &[u8]) -> Result<(), Refusal>
-    requires { length text.now ≤ 65536 }
     ensures { result ≡ judging 1 (tokens text.now) }
 {
-    let mut cursor = Cursor { rest: text };
-    let mut at: usize = 1;
-    while let Some(token) = cursor.next_token() {
-        let Some(_) = read_number(token, Width::Sixteen) else {
-            return Err(Refusal::Token(at));
-        };
-        at += 1;
+    for (i, token) in Tokens::new(text).enumerate() {
+        read_word(token).ok_or(Refusal::Token(i + 1))?;
     }
     Ok(())
 }
@@ -52,4 +46,14 @@ pub fn check_text(text: &[u8]) -> Result<(), Refusal>
         return Err(Refusal::Length);
     }
     check_tokens(text)
+}
+
+// The tokens of an accepted text, and none of a refused one.
+pub(crate) fn accepted_tokens(text: &[u8]) -> Tokens<'_>
+    ensures { tokens result.rest.now ≡ accepted text.now }
+{
+    match check_text(text) {
+        Ok(()) => Tokens::new(text),
+        Err(_) => Tokens::new(b""),
+    }
 }

@@ -4,8 +4,9 @@
 ghost use Rattle.text_port.specs.Laws.{TokenLaws, SendsLines};
 
 mod checks;
-mod cursor;
+mod lines;
 mod ports;
+mod tokens;
 
 pub use checks::{Refusal, check_text};
 pub use ports::TextPort;

@@ -1,60 +1,26 @@
 // A text port: a port over a lent text to read and a lent buffer for the lines of the words sent.
-ghost use Rattle.std.specs.Prelude.{◌≡◌, ◌+◌, ◌≤◌, [], map, length, Some, Ok, Err};
-ghost use Rattle.numbers.specs.Reading.{reading};
-ghost use Rattle.port.specs.Meaning.{taking, sending};
-ghost use Rattle.text_port.specs.Tokens.{tokens, words_of};
-ghost use Rattle.text_port.specs.Checking.{checking};
-ghost use Rattle.text_port.specs.Holding.{held, means, front, accepted, unused, fresh, over, taking_one, writing};
+ghost use Rattle.std.specs.Prelude.{◌≡◌, ◌*◌, ◌≤◌, [], map, length, Some, Ok, Err};
 
-use crate::checks::{Refusal, check_text};
-use crate::cursor::Cursor;
-use numbers::{Width, read_number, write_hex};
+use crate::checks::{Refusal, accepted_tokens};
+use crate::lines::write_line;
+use crate::tokens::{Tokens, read_word};
 use port::{Dry, Full, Port};
-
-// The whole of an accepted text, and nothing of a refused one.
-fn accepted_text(text: &[u8]) -> &[u8]
-    ensures { tokens result.now ≡ accepted text.now }
-{
-    match check_text(text) {
-        Ok(()) => text,
-        Err(_) => &text[0..0],
-    }
-}
-
-// How many words of a text wait.
-fn count_words(text: &[u8]) -> usize
-    ensures { result ≡ length (words_of (tokens text.now)) }
-{
-    let mut cursor = Cursor { rest: text };
-    let mut count = 0;
-    while let Some(token) = cursor.next_token() {
-        let Some(_) = read_number(token, Width::Sixteen) else {
-            return count;
-        };
-        count += 1;
-    }
-    count
-}
-
-// Writes the line of `word` over the five bytes from `at` on.
-fn write_line(buffer: &mut [u8], at: usize, word: u16)
-    requires { at + 5 ≤ length buffer.old }
-    ensures { buffer.new ≡ over buffer.old at word }
-{
-    let [first, second, third, fourth] = write_hex(word);
-    let line = [first, second, third, fourth, b'\n'];
-    buffer[at..at + 5].copy_from_slice(&line);
-}
 
 /// A text to read, and a buffer for the lines of the words sent.
 #[derive(Drop)]
 pub struct TextPort<'i, 'o> {
-    rest: &'i [u8],
+    tokens: Tokens<'i>,
     output: &'o mut [u8],
     lines: usize,
+    ghost fit: { 5 * lines ≤ length output.now },
 }
 
 impl<'i, 'o> TextPort<'i, 'o> {
+    ghost use Rattle.numbers.specs.Reading.{reading};
+    ghost use Rattle.text_port.specs.Tokens.{tokens};
+    ghost use Rattle.text_port.specs.Checking.{checking};
+    ghost use Rattle.text_port.specs.Holding.{held, means, front, unused, fresh};
+
     /// Every word of an accepted `text` waits, none of a refused one, and each five bytes of `output` are a free place.
     pub fn new(text: &'i [u8], output: &'o mut [u8]) -> TextPort<'i, 'o>
         ensures holds { held result ≡ unused text.now output.old }
@@ -63,7 +29,7 @@ impl<'i, 'o> TextPort<'i, 'o> {
         ensures refused { (refusal : Refusal) → checking text.now ≡ Err refusal → (means (held result)).waiting ≡ [] }
     {
         TextPort {
-            rest: accepted_text(text),
+            tokens: accepted_tokens(text),
             output,
             lines: 0,
         }
@@ -73,13 +39,14 @@ impl<'i, 'o> TextPort<'i, 'o> {
     pub fn written(&self) -> &[u8]
         ensures { result.now ≡ front (held self.now) }
     {
-        // No fact bounds the lines, so the cut does.
-        let end = self.lines.saturating_mul(5).min(self.output.len());
-        &self.output[0..end]
+        &self.output[..5 * self.lines]
     }
 }
 
 impl<'i, 'o> Port for TextPort<'i, 'o> {
+    ghost use Rattle.port.specs.Meaning.{taking, sending};
+    ghost use Rattle.text_port.specs.Holding.{held, means, taking_one, writing};
+
     ghost waiting = { λ s. (means (held s)).waiting };
 
     ghost sent = { λ s. (means (held s)).sent };
@@ -87,11 +54,11 @@ impl<'i, 'o> Port for TextPort<'i, 'o> {
     ghost free = { λ s. (means (held s)).free };
 
     fn count_waiting(&self) -> usize {
-        count_words(self.rest)
+        self.tokens.map_while(read_word).count()
     }
 
     fn count_free(&self) -> usize {
-        (self.output.len() / 5).saturating_sub(self.lines)
+        self.output.len() / 5 - self.lines
     }
 
     fn take(&mut self) -> Result<u16, Dry>
@@ -99,14 +66,9 @@ impl<'i, 'o> Port for TextPort<'i, 'o> {
         ensures after { means (held self.new) ≡ (taking (means (held self.old))).after }
         ensures holds { held self.new ≡ taking_one (held self.old) }
     {
-        let mut cursor = Cursor { rest: self.rest };
-        let Some(token) = cursor.next_token() else {
-            return Err(Dry);
-        };
-        let Some(word) = read_number(token, Width::Sixteen) else {
-            return Err(Dry);
-        };
-        self.rest = cursor.rest;
+        let mut tokens = self.tokens;
+        let word = tokens.next().and_then(read_word).ok_or(Dry)?;
+        self.tokens = tokens;
         Ok(word)
     }
 
@@ -118,8 +80,7 @@ impl<'i, 'o> Port for TextPort<'i, 'o> {
         if self.lines >= self.output.len() / 5 {
             return Err(Full);
         }
-        let at = 5 * self.lines;
-        write_line(self.output, at, word);
+        write_line(self.output, 5 * self.lines, word);
         self.lines += 1;
         Ok(())
     }

@@ -1,6 +1,5 @@
-use Rattle.std.proofs.Common.{rules}
-use Rattle.text_port.proofs.Starts.{new_holds, new_starts, new_accepted, new_refused}
+use Rattle.text_port.proofs.Causes.{words_accepted}
 use Rattle.text_port.proofs.ports.TextPort.new.Goals as goal
 
-pub returns : goal.returns
-returns c = search (rules, new_holds, new_starts, new_accepted, new_refused)
+pub returns-clause-accepted : goal.returns-clause-accepted
+returns-clause-accepted c = λ e. rw (c.accepted_tokens.ensures, e) (words_accepted c.args.text.now e)

@@ -1,7 +1,0 @@
-use Rattle.std.proofs.Common.{not}
-use Rattle.text_port.specs.Tokens.{gap}
-use Rattle.text_port.proofs.Scans.{Sofar}
-use Rattle.text_port.proofs.cursor.gap_len.Given as goal
-
-abbrev pub invariant-loop-i : goal.invariant-loop-i
-invariant-loop-i l = Sofar (λ c. not (gap c)) l.text l.i

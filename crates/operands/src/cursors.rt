@@ -34,11 +34,10 @@ impl<'a> Iterator for Values<'a> {
 fn read_escape(b: u8) -> Result<u8, StatementFault>
     ensures { result ≡ escaped b }
 {
-    match char::from(b) {
-        'n' => Ok(b'\n'),
-        't' => Ok(b'\t'),
-        '"' => Ok(b'"'),
-        '\\' => Ok(b'\\'),
+    match b {
+        b'n' => Ok(b'\n'),
+        b't' => Ok(b'\t'),
+        b'"' | b'\\' => Ok(b),
         _ => Err(StatementFault::Malformed),
     }
 }

@@ -2,13 +2,10 @@
 use Rattle.std.proofs.Common.{◌≡◌, ℕ, suc, ◌+◌, ◌-◌, ◌≤◌, Bool, true, false, cond, eqb, arith, List, [], ◌∷◌, map, length, get_or, take, drop, Ok, Err, Result, sym, refl, ap, ◌∙◌}
 use Rattle.std.specs.Result.{ok_prefix}
 use Rattle.std.proofs.lemmas.List.{take_rest, length-map}
-use Rattle.std.proofs.lemmas.Bool.{ne_eqb}
-use Rattle.faults.specs.declared.OperandFault.{OperandFault}
 use Rattle.faults.specs.declared.StatementFault.{StatementFault}
 use Rattle.faults.specs.declared.StatementFault.TheVariants.{Malformed, InOperand}
 use Rattle.faults.specs.Chains.{and_then, then, under, gathered}
 use Rattle.faults.proofs.Gathers.{counted, counted_fault}
-use Rattle.operands.specs.declared.Immediate.{Immediate}
 use Rattle.pieces.specs.Pieces.{joined, begun, pieces}
 use Rattle.lines.specs.declared.Place.{Place}
 use Rattle.lines.specs.declared.Place.TheVariants.{Outside}
@@ -18,7 +15,7 @@ use Rattle.operands.specs.Texts.{escaped, characters}
 use Rattle.operations.specs.Fields.{exactly, some_fields, numbered, terminated, string}
 use Rattle.operations.specs.Reading.{all_values}
 use Rattle.operations.specs.Kinds.{Read, sized}
-use Rattle.operations.specs.declared.kinds.Operation.TheVariants.{Fill, Cstr}
+use Rattle.operations.specs.declared.kinds.Operation.TheVariants.{Cstr}
 
 -- no more values or characters than bytes
 few_parts : (s : Place) (cs : List ℕ) → length (pieces after gap s cs) ≤ length cs
@@ -31,14 +28,13 @@ few_parts s (c ∷ cs) = by (gap s c) (begun after gap (after s c) cs) (pieces a
     by false true (p ∷ ps) h = omega arith
     by false false ps h = omega arith
 
-few_all : {X E : Type 0} (rs : List (Result X E)) → length (ok_prefix rs) ≤ length rs
-few_all [] = omega arith
-few_all (Ok x ∷ rs) = (let more = few_all rs in omega arith)
-few_all (Err e ∷ rs) = omega arith
-
 few_more : {X E : Type 0} (r : Result X E) (rs : List (Result X E)) (n : ℕ) → length (ok_prefix rs) ≤ n → length (ok_prefix (r ∷ rs)) ≤ suc n
 few_more (Ok x) rs n h = omega arith
 few_more (Err e) rs n h = omega arith
+
+few_all : {X E : Type 0} (rs : List (Result X E)) → length (ok_prefix rs) ≤ length rs
+few_all [] = omega arith
+few_all (r ∷ rs) = few_more r rs (length rs) (few_all rs)
 
 pub few_values : (cs : List ℕ) → length (ok_prefix (values cs)) ≤ length cs
 few_values cs = omega (arith, few_all (values cs), length-map (parts cs) (immediate 16), few_parts Outside cs)
@@ -67,11 +63,6 @@ module _ (fs : List (List ℕ)) (some : Ok tt ≡ some_fields fs) where
       ∙ sym (ap (λ g. under numbered (and_then g InOperand (λ vs. Ok vs))) c.all)
       ∙ ap (λ s. under numbered (then s (λ done. and_then (gathered (map (immediate 16) fs)) InOperand (λ vs. Ok vs)))) some
 
-  pub values_fault : (e : OperandFault) → Err e ≡ under length (gathered (map (immediate 16) fs)) → Err (InOperand e) ≡ under numbered (all_values fs)
-  values_fault e h =
-      sym (ap (λ g. under numbered (and_then g InOperand (λ vs. Ok vs))) (counted_fault e (map (immediate 16) fs) h))
-      ∙ ap (λ s. under numbered (then s (λ done. and_then (gathered (map (immediate 16) fs)) InOperand (λ vs. Ok vs)))) some
-
 -- one field, which nothing follows
 module _ (fs rest : List (List ℕ)) (f : List ℕ) (first : fs ≡ f ∷ rest) (last : Ok tt ≡ exactly 0 rest) where
   quoted : get_or f 0 0 ≡ 34 → string fs ≡ gathered (characters (take (length f - 1) (drop 1 f)))
@@ -79,9 +70,6 @@ module _ (fs rest : List (List ℕ)) (f : List ℕ) (first : fs ≡ f ∷ rest) 
       ap string first
       ∙ sym (ap (λ s. then s (λ done. string (f ∷ []))) last)
       ∙ rw (q, take_rest f 1)
-
-  pub not_quoted : (get_or f 0 0 ≡ 34 → ⊥) → Err Malformed ≡ under terminated (string fs)
-  not_quoted n = sym (ap (λ l. under terminated (string l)) first ∙ sym (ap (λ s. under terminated (then s (λ done. string (f ∷ [])))) last) ∙ rw (ne_eqb (get_or f 0 0) 34 n))
 
   pub text_taken : get_or f 0 0 ≡ 34 → (n : ℕ) → Ok n ≡ under length (gathered (characters (take (length f - 1) (drop 1 f)))) → Ok (ok_prefix (characters (take (length f - 1) (drop 1 f))), n + 1) ≡ under terminated (string fs)
   text_taken q n h =
@@ -93,15 +81,8 @@ module _ (fs rest : List (List ℕ)) (f : List ℕ) (first : fs ≡ f ∷ rest) 
   text_fault q e h = sym (ap (under terminated) (quoted q ∙ counted_fault e (characters (take (length f - 1) (drop 1 f))) h))
 
 -- what is counted, as the operation that holds it
-abbrev pub as_fill : Result (List (Immediate (List ℕ)) × ℕ) StatementFault → Result (Read × ℕ) StatementFault
-as_fill r = under (λ p. (Fill p.0, p.1)) r
-
 abbrev pub as_cstr : Result (List ℕ × ℕ) StatementFault → Result (Read × ℕ) StatementFault
 as_cstr r = under (λ p. (Cstr p.0, p.1)) r
-
-pub fill_told : (r : Result (List (Immediate (List ℕ))) StatementFault) → as_fill (under numbered r) ≡ under sized (under Fill r)
-fill_told (Ok vs) = refl
-fill_told (Err e) = refl
 
 pub cstr_told : (r : Result (List ℕ) StatementFault) → as_cstr (under terminated r) ≡ under sized (under Cstr r)
 cstr_told (Ok cs) = refl

@@ -50,6 +50,7 @@ fn check_some(fields: Parts<'_>) -> Result<(), StatementFault>
     check_plain(fields)
 }
 
+// Fields are read one by one: the check makes no proof yet over an array of references of a const length.
 pub(crate) fn next_field<'a>(fields: &mut Parts<'a>) -> Result<&'a [u8], StatementFault>
     ensures { under (λ f. (f.now, parts fields.new.rest.now)) result ≡ first_field (parts fields.old.rest.now) }
 {

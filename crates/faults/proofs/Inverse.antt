@@ -9,6 +9,10 @@ never h = cc
 pub same_value : {X E : Type 0} (x y : X) → ◌≡◌ {A = Result X E} (Ok x) (Ok y) → x ≡ y
 same_value x y h = cc
 
+-- what holds of the value holds of the one answered
+pub held_ok : {X E : Type 0} (P : X → Type 0) {x y : X} → ◌≡◌ {A = Result X E} (Ok x) (Ok y) → P x → P y
+held_ok P {x} {y} h p = subst P (same_value x y h) p
+
 -- what holds of every value holds of the one answered
 pub held_and_then : {X Y E F : Type 0} (P : Y → Type 0) (r : Result X E) (up : E → F) (go : X → Result Y F) (y : Y)
     → and_then r up go ≡ Ok y → ((x : X) → r ≡ Ok x → go x ≡ Ok y → P y) → P y
@@ -16,7 +20,7 @@ held_and_then P (Ok x) up go y h all = all x refl h
 held_and_then P (Err e) up go y h all = never (sym h)
 
 pub held_under : {X Y E : Type 0} (P : Y → Type 0) (f : X → Y) (r : Result X E) (y : Y) → under f r ≡ Ok y → ((x : X) → r ≡ Ok x → P (f x)) → P y
-held_under {X} {Y} {E} P f (Ok x) y h all = subst P (same_value {E = E} (f x) y h) (all x refl)
+held_under P f (Ok x) y h all = held_ok P h (all x refl)
 held_under P f (Err e) y h all = never (sym h)
 
 pub held_cond : {Y F : Type 0} (P : Y → Type 0) (b : Bool) (one two : Result Y F) (y : Y) → cond b one two ≡ Ok y → (b ≡ true → one ≡ Ok y → P y) → (b ≡ false → two ≡ Ok y → P y) → P y

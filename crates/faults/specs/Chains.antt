@@ -1,5 +1,5 @@
 -- Answers one after another, as `?` joins them. Assumes nothing.
-use Rattle.std.specs.Prelude.{List, [], ◌∷◌, Ok, Err, Result}
+use Rattle.std.specs.Prelude.{◌≡◌, ℕ, ◌<◌, List, [], ◌∷◌, length, take, Some, None, Ok, Err, Option, Result}
 
 -- go on with the value, or stop with the fault as the next layer has it
 abbrev pub and_then : {X Y E F : Type 0} → Result X E → (E → F) → (X → Result Y F) → Result Y F
@@ -20,17 +20,8 @@ abbrev pub gathered : {X E : Type 0} → List (Result X E) → Result (List X) E
 gathered [] = Ok []
 gathered (r ∷ rs) = then r (λ x. then (gathered rs) (λ xs. Ok (x ∷ xs)))
 
--- the values before the first fault
-abbrev pub before_fault : {X E : Type 0} → Result X E → List X → List X
-before_fault (Ok x) xs = x ∷ xs
-before_fault (Err e) xs = []
-
-abbrev pub good : {X E : Type 0} → List (Result X E) → List X
-good [] = []
-good (r ∷ rs) = before_fault r (good rs)
-
--- the values, and the first fault behind them
-abbrev pub up_to_fault : {X E : Type 0} → List (Result X E) → List (Result X E)
-up_to_fault [] = []
-up_to_fault (Ok x ∷ rs) = Ok x ∷ up_to_fault rs
-up_to_fault (Err e ∷ rs) = Err e ∷ []
+-- what an iterator over answers removes: nothing is left, the first value is removed, or a fault stands first and behind it nothing is left
+abbrev pub Next : {X Y E : Type 0} → (List ℕ → List (Result Y E)) → (X → Y) → Option (Result X E) → List ℕ → List ℕ → Type 0
+Next told seen None before after = (told before ≡ []) × (after ≡ before)
+Next told seen (Some (Ok x)) before after = (told before ≡ Ok (seen x) ∷ told after) × (length after < length before)
+Next told seen (Some (Err e)) before after = (take 1 (told before) ≡ Err e ∷ []) × (told after ≡ [])

@@ -87,6 +87,7 @@ impl From<OnLine> for AssemblyFault {
 }
 
 impl StatementFault {
+    // Not by discriminants: a variant that holds a fault has that fault's number.
     fn number(self) -> u8
         ensures { result ≡ (of_statement 0 self).number }
     {

@@ -1,7 +1,7 @@
 // The values of a `.fill`, and the characters of a string, one after another.
 ghost use Rattle.std.specs.Prelude.{◌≡◌, ℕ};
-ghost use Rattle.std.specs.Iterator.{YieldsFirst, YieldsFirstBy, item_count};
-ghost use Rattle.faults.specs.Chains.{under, up_to_fault};
+ghost use Rattle.std.specs.Iterator.{item_count};
+ghost use Rattle.faults.specs.Chains.{Next};
 ghost use Rattle.operands.specs.Operands.{values, seen};
 ghost use Rattle.operands.specs.Texts.{escaped, characters};
 
@@ -19,9 +19,9 @@ pub struct Values<'a> {
 impl<'a> Iterator for Values<'a> {
     type Item = Result<Immediate<&'a [u8]>, OperandFault>;
 
-    ghost next_gives = { YieldsFirstBy (under seen) (λ s. up_to_fault (values s.rest.now)) };
+    ghost next_gives = { λ s r t. Next values seen r s.rest.now t.rest.now };
 
-    ghost remaining = { item_count (λ s. up_to_fault (values s.rest.now)) };
+    ghost remaining = { item_count (λ s. values s.rest.now) };
 
     fn next(&mut self) -> Option<Result<Immediate<&'a [u8]>, OperandFault>> {
         let mut fields = Parts::new(self.rest);
@@ -34,15 +34,15 @@ impl<'a> Iterator for Values<'a> {
 fn read_escape(b: u8) -> Result<u8, StatementFault>
     ensures { result ≡ escaped b }
 {
-    match char::from(b) {
-        'n' => Ok(b'\n'),
-        't' => Ok(b'\t'),
-        '"' => Ok(b'"'),
-        '\\' => Ok(b'\\'),
+    match b {
+        b'n' => Ok(b'\n'),
+        b't' => Ok(b'\t'),
+        b'"' | b'\\' => Ok(b),
         _ => Err(StatementFault::Malformed),
     }
 }
 
+// A text of which only the closing quote is left.
 const CLOSED: &[u8] = b"\"";
 
 /// The bytes of a string behind its opening quote. Behind a fault nothing is left.
@@ -54,9 +54,9 @@ pub struct Text<'a> {
 impl<'a> Iterator for Text<'a> {
     type Item = Result<u8, StatementFault>;
 
-    ghost next_gives = { YieldsFirst (λ s. up_to_fault (characters s.rest.now)) };
+    ghost next_gives = { λ s r t. Next characters (λ n. n) r s.rest.now t.rest.now };
 
-    ghost remaining = { item_count (λ s. up_to_fault (characters s.rest.now)) };
+    ghost remaining = { item_count (λ s. characters s.rest.now) };
 
     fn next(&mut self) -> Option<Result<u8, StatementFault>> {
         let (character, rest) = match self.rest {

@@ -1,73 +1,24 @@
 -- The values of a `.fill` and the text of a `.cstr`, counted.
-use Rattle.std.proofs.Common.{◌≡◌, ℕ, suc, ◌+◌, ◌-◌, ◌≤◌, Bool, true, false, cond, eqb, arith, List, [], ◌∷◌, map, length, get_or, take, drop, Ok, Err, Result, sym, refl, ap, ◌∙◌}
-use Rattle.std.proofs.lemmas.List.{take_rest, length-map}
-use Rattle.std.proofs.lemmas.Bool.{ne_eqb}
-use Rattle.faults.specs.declared.OperandFault.{OperandFault}
+use Rattle.std.proofs.Common.{◌≡◌, ℕ, ◌+◌, ◌-◌, List, [], ◌∷◌, map, length, get_or, take, drop, Ok, Err, Result, sym, refl, ap, ◌∙◌}
+use Rattle.std.specs.Result.{ok_prefix}
+use Rattle.std.proofs.lemmas.List.{take_rest}
 use Rattle.faults.specs.declared.StatementFault.{StatementFault}
-use Rattle.faults.specs.declared.StatementFault.TheVariants.{Malformed, InOperand}
-use Rattle.faults.specs.Chains.{and_then, then, under, gathered, good, before_fault}
+use Rattle.faults.specs.declared.StatementFault.TheVariants.{InOperand}
+use Rattle.faults.specs.Chains.{and_then, then, under, gathered}
 use Rattle.faults.proofs.Gathers.{counted, counted_fault}
-use Rattle.operands.specs.declared.Immediate.{Immediate}
-use Rattle.pieces.specs.Pieces.{joined, begun, pieces}
-use Rattle.lines.specs.declared.Place.{Place}
-use Rattle.lines.specs.declared.Place.TheVariants.{Outside}
-use Rattle.lines.specs.Places.{after, gap, parts}
-use Rattle.operands.specs.Operands.{immediate, values}
-use Rattle.operands.specs.Texts.{escaped, characters}
+use Rattle.operands.specs.Operands.{immediate}
+use Rattle.operands.specs.Texts.{characters}
 use Rattle.operations.specs.Fields.{exactly, some_fields, numbered, terminated, string}
 use Rattle.operations.specs.Reading.{all_values}
 use Rattle.operations.specs.Kinds.{Read, sized}
-use Rattle.operations.specs.declared.kinds.Operation.TheVariants.{Fill, Cstr}
-
--- no more values or characters than bytes
-few_parts : (s : Place) (cs : List ℕ) → length (pieces after gap s cs) ≤ length cs
-few_parts s [] = omega arith
-few_parts s (c ∷ cs) = by (gap s c) (begun after gap (after s c) cs) (pieces after gap (after s c) cs) (few_parts (after s c) cs)
-  where
-    by : (g b : Bool) (ps : List (List ℕ)) → length ps ≤ length cs → length (cond g ps (joined c b ps)) ≤ length (c ∷ cs)
-    by true b ps h = omega arith
-    by false true [] h = omega arith
-    by false true (p ∷ ps) h = omega arith
-    by false false ps h = omega arith
-
-few_good : {X E : Type 0} (r : Result X E) (xs : List X) (n : ℕ) → length xs ≤ n → length (before_fault r xs) ≤ suc n
-few_good (Ok x) xs n h = omega arith
-few_good (Err e) xs n h = omega arith
-
-few_all : {X E : Type 0} (rs : List (Result X E)) → length (good rs) ≤ length rs
-few_all [] = omega arith
-few_all (r ∷ rs) = few_good r (good rs) (length rs) (few_all rs)
-
-pub few_values : (cs : List ℕ) → length (good (values cs)) ≤ length cs
-few_values cs = omega (arith, few_all (values cs), length-map (parts cs) (immediate 16), few_parts Outside cs)
-
-pub few_characters : (cs : List ℕ) → length (good (characters cs)) ≤ length cs
-few_characters [] = omega arith
-few_characters (c ∷ []) = by (eqb c 34) (eqb c 92)
-  where
-    by : (a b : Bool) → length (good (cond a [] (cond b (Err Malformed ∷ []) (Ok c ∷ Err Malformed ∷ [])))) ≤ 1
-    by true b = omega arith
-    by false true = omega arith
-    by false false = omega arith
-few_characters (c ∷ d ∷ ds) = by (eqb c 34) (eqb c 92) (few_characters ds) (few_characters (d ∷ ds))
-  where
-    by : (a b : Bool) → length (good (characters ds)) ≤ length ds → length (good (characters (d ∷ ds))) ≤ suc (length ds)
-        → length (good (cond a (Err Malformed ∷ []) (cond b (escaped d ∷ characters ds) (Ok c ∷ characters (d ∷ ds))))) ≤ suc (suc (length ds))
-    by true b h k = omega arith
-    by false true h k = (let one = few_good (escaped d) (good (characters ds)) (length ds) h in omega arith)
-    by false false h k = omega arith
+use Rattle.operations.specs.declared.kinds.Operation.TheVariants.{Cstr}
 
 module _ (fs : List (List ℕ)) (some : Ok tt ≡ some_fields fs) where
-  pub values_taken : (n : ℕ) → Ok n ≡ under length (gathered (map (immediate 16) fs)) → Ok (good (map (immediate 16) fs), n) ≡ under numbered (all_values fs)
+  pub values_taken : (n : ℕ) → Ok n ≡ under length (gathered (map (immediate 16) fs)) → Ok (ok_prefix (map (immediate 16) fs), n) ≡ under numbered (all_values fs)
   values_taken n h =
       let c = counted n (map (immediate 16) fs) h in
-      ap (λ k. Ok (good (map (immediate 16) fs), k)) c.many
+      ap (λ k. Ok (ok_prefix (map (immediate 16) fs), k)) c.many
       ∙ sym (ap (λ g. under numbered (and_then g InOperand (λ vs. Ok vs))) c.all)
-      ∙ ap (λ s. under numbered (then s (λ done. and_then (gathered (map (immediate 16) fs)) InOperand (λ vs. Ok vs)))) some
-
-  pub values_fault : (e : OperandFault) → Err e ≡ under length (gathered (map (immediate 16) fs)) → Err (InOperand e) ≡ under numbered (all_values fs)
-  values_fault e h =
-      sym (ap (λ g. under numbered (and_then g InOperand (λ vs. Ok vs))) (counted_fault e (map (immediate 16) fs) h))
       ∙ ap (λ s. under numbered (then s (λ done. and_then (gathered (map (immediate 16) fs)) InOperand (λ vs. Ok vs)))) some
 
 -- one field, which nothing follows
@@ -78,28 +29,18 @@ module _ (fs rest : List (List ℕ)) (f : List ℕ) (first : fs ≡ f ∷ rest) 
       ∙ sym (ap (λ s. then s (λ done. string (f ∷ []))) last)
       ∙ rw (q, take_rest f 1)
 
-  pub not_quoted : (get_or f 0 0 ≡ 34 → ⊥) → Err Malformed ≡ under terminated (string fs)
-  not_quoted n = sym (ap (λ l. under terminated (string l)) first ∙ sym (ap (λ s. under terminated (then s (λ done. string (f ∷ [])))) last) ∙ rw (ne_eqb (get_or f 0 0) 34 n))
-
-  pub text_taken : get_or f 0 0 ≡ 34 → (n : ℕ) → Ok n ≡ under length (gathered (characters (take (length f - 1) (drop 1 f)))) → Ok (good (characters (take (length f - 1) (drop 1 f))), n + 1) ≡ under terminated (string fs)
+  pub text_taken : get_or f 0 0 ≡ 34 → (n : ℕ) → Ok n ≡ under length (gathered (characters (take (length f - 1) (drop 1 f)))) → Ok (ok_prefix (characters (take (length f - 1) (drop 1 f))), n + 1) ≡ under terminated (string fs)
   text_taken q n h =
       let c = counted n (characters (take (length f - 1) (drop 1 f))) h in
-      ap (λ k. Ok (good (characters (take (length f - 1) (drop 1 f))), k + 1)) c.many
+      ap (λ k. Ok (ok_prefix (characters (take (length f - 1) (drop 1 f))), k + 1)) c.many
       ∙ sym (ap (under terminated) (quoted q ∙ c.all))
 
   pub text_fault : get_or f 0 0 ≡ 34 → (e : StatementFault) → Err e ≡ under length (gathered (characters (take (length f - 1) (drop 1 f)))) → Err e ≡ under terminated (string fs)
   text_fault q e h = sym (ap (under terminated) (quoted q ∙ counted_fault e (characters (take (length f - 1) (drop 1 f))) h))
 
 -- what is counted, as the operation that holds it
-abbrev pub as_fill : Result (List (Immediate (List ℕ)) × ℕ) StatementFault → Result (Read × ℕ) StatementFault
-as_fill r = under (λ p. (Fill p.0, p.1)) r
-
 abbrev pub as_cstr : Result (List ℕ × ℕ) StatementFault → Result (Read × ℕ) StatementFault
 as_cstr r = under (λ p. (Cstr p.0, p.1)) r
-
-pub fill_told : (r : Result (List (Immediate (List ℕ))) StatementFault) → as_fill (under numbered r) ≡ under sized (under Fill r)
-fill_told (Ok vs) = refl
-fill_told (Err e) = refl
 
 pub cstr_told : (r : Result (List ℕ) StatementFault) → as_cstr (under terminated r) ≡ under sized (under Cstr r)
 cstr_told (Ok cs) = refl

@@ -1,12 +1,12 @@
 -- Operations with their names, values and characters by themselves, and the words that each places. Assumes nothing.
 use Rattle.std.specs.Prelude.{ℕ, ◌+◌, List, length}
+use Rattle.std.specs.Result.{ok_prefix}
 use Rattle.std.specs.Borrow.{Bor}
 use Rattle.operands.specs.declared.Immediate.{Immediate}
 use Rattle.operands.specs.declared.Values.{Values}
 use Rattle.operands.specs.declared.Text.{Text}
 use Rattle.operands.specs.Operands.{values, seen}
 use Rattle.operands.specs.Texts.{characters}
-use Rattle.faults.specs.Chains.{good}
 use Rattle.operations.specs.declared.mnemonics.Mnemonic.{Mnemonic}
 use Rattle.operations.specs.declared.mnemonics.Mnemonic.TheVariants as name
 use Rattle.operations.specs.declared.kinds.RegisterImmediate.{RegisterImmediate}
@@ -48,10 +48,10 @@ seen_operands o = record { rd = o.rd; imm = seen o.imm }
 
 -- the values and the characters in a part of a line
 abbrev pub seen_values : Values → List (Immediate (List ℕ))
-seen_values vs = good (values vs.rest.now)
+seen_values vs = ok_prefix (values vs.rest.now)
 
 abbrev pub seen_text : Text → List ℕ
-seen_text cs = good (characters cs.rest.now)
+seen_text cs = ok_prefix (characters cs.rest.now)
 
 -- an operation of the code, which holds parts of its line
 abbrev pub seen_operation : Operation (Bor (List ℕ)) Values Text → Read

@@ -13,16 +13,11 @@ use faults::{OperandFault, StatementFault};
 use lines::Parts;
 use operands::{Text, Values};
 
-fn is_plain(field: &[u8]) -> bool
-    ensures { result ≡ plain field.now }
-{
-    !field.contains(&b'"')
-}
-
+// Whether no text is among the fields.
 fn are_plain(mut fields: Parts<'_>) -> bool
     ensures { result ≡ list_all plain (parts fields.entry.rest.now) }
 {
-    fields.all(|field| is_plain(field))
+    fields.all(|field| !field.contains(&b'"'))
 }
 
 fn check_plain(fields: Parts<'_>) -> Result<(), StatementFault>
@@ -55,12 +50,14 @@ fn check_some(fields: Parts<'_>) -> Result<(), StatementFault>
     check_plain(fields)
 }
 
+// Fields are read one by one: the check makes no proof yet over an array of references of a const length.
 pub(crate) fn next_field<'a>(fields: &mut Parts<'a>) -> Result<&'a [u8], StatementFault>
     ensures { under (λ f. (f.now, parts fields.new.rest.now)) result ≡ first_field (parts fields.old.rest.now) }
 {
     fields.next().ok_or(StatementFault::Malformed)
 }
 
+// Two counts: one over any iterator of answers could only speak of what its `next` gave, and not of a line's values.
 fn count_values(fields: Values<'_>) -> Result<usize, OperandFault>
     ensures { result ≡ under length (gathered (values fields.entry.rest.now)) }
 {

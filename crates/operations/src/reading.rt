@@ -113,6 +113,7 @@ pub fn read_operation<'a>(
 ) -> Result<(LineOperation<'a>, usize), StatementFault>
     ensures { under seen_sized result ≡ under sized (operation mnemonic (parts fields.entry.rest.now)) }
 {
+    // The number stands beside each operation: from a text alone no bound is known for its characters and a zero.
     match mnemonic {
         Mnemonic::Compute(f) => Ok((Operation::Compute(f, read_three_registers(fields)?), 1)),
         Mnemonic::Not => Ok((Operation::Not(read_two_registers(fields)?), 1)),

@@ -25,6 +25,7 @@ pub(crate) enum Words<'a> {
     Characters(Text<'a>),
 }
 
+// Not a `From`: both types are of crates below.
 fn with_six(o: RegistersNumber) -> RegistersImm6
     ensures { result ≡ with_six o }
 {

@@ -3,24 +3,13 @@ ghost use Rattle.std.specs.Prelude.{◌≡◌, ℕ, length, OnOk};
 ghost use Rattle.std.specs.Iterator.{YieldsFirst, item_count};
 ghost use Rattle.buffers.specs.Buffers.{blank};
 ghost use Rattle.faults.specs.Chains.{gathered};
-ghost use Rattle.operations.specs.Kinds.{seen_text, seen_operation};
+ghost use Rattle.operations.specs.Kinds.{seen_operation};
 ghost use Rattle.placement.specs.Placing.{words_of, answers, placing};
 
 use super::expansion::{Words, expand};
 use super::labels::{Labels, Site};
 use faults::{LabelFault, StatementFault};
-use operands::Text;
 use operations::LineOperation;
-
-// The next character before any fault.
-fn next_character(text: &mut Text<'_>) -> Option<u8>
-    ensures { YieldsFirst seen_text text.old result text.new }
-{
-    match text.next()? {
-        Ok(character) => Some(character),
-        Err(_) => None,
-    }
-}
 
 /// Words one after another, labels by their values.
 #[derive_where(Clone, Copy)]
@@ -36,7 +25,6 @@ impl<'l, 'a, L: Labels> Iterator for Resolved<'l, 'a, L> {
 
     ghost remaining = { item_count (λ s. answers (L.valued s.site.labels.now) s.words) };
 
-    #[tactic(auto, using(faults::proofs::Gathers::good_first, faults::proofs::Gathers::good_fault, faults::proofs::Gathers::good_none))]
     fn next(&mut self) -> Option<Result<u16, LabelFault>> {
         match self.words {
             Words::Nothing => None,
@@ -54,7 +42,7 @@ impl<'l, 'a, L: Labels> Iterator for Resolved<'l, 'a, L> {
                 Some(self.site.resolve_word(value))
             }
             Words::Characters(mut text) => {
-                let Some(character) = next_character(&mut text) else {
+                let Some(Ok(character)) = text.next() else {
                     self.words = Words::Nothing;
                     return Some(Ok(0));
                 };

@@ -1,5 +1,5 @@
 -- The laws of lines and sources that are read.
-use Rattle.std.proofs.Common.{◌≡◌, ℕ, suc, ◌+◌, Bool, true, false, cond, leb, List, [], ◌∷◌, ◌++◌, length, Some, None, Ok, Err, Option, Result, sym, refl, ap, ◌∙◌, subst, ⊎_elim, arith, MatchOption}
+use Rattle.std.proofs.Common.{◌≡◌, ℕ, suc, ◌+◌, Bool, true, false, cond, leb, List, [], ◌∷◌, ◌++◌, length, Some, None, Ok, Err, Option, Result, sym, refl, ap, ◌∙◌, ⊎_elim, arith, MatchOption}
 use Rattle.std.specs.Option.{option_map}
 use Rattle.std.proofs.lemmas.Bool.{le-leb, lt-leb, cases_lt, cond-true, cond-false}
 use Rattle.faults.specs.declared.StatementFault.{StatementFault}
@@ -8,7 +8,7 @@ use Rattle.faults.specs.declared.AssemblyFault.{AssemblyFault}
 use Rattle.faults.specs.declared.AssemblyFault.TheVariants.{ForbiddenByte, InStatement}
 use Rattle.faults.specs.Faults.{on_line}
 use Rattle.faults.specs.Chains.{and_then, under, gathered}
-use Rattle.faults.proofs.Inverse.{never, same_value, held_under, held_cond, all_good, first_fault, either}
+use Rattle.faults.proofs.Inverse.{same_value, held_ok, held_under, held_cond, all_good, first_fault, either}
 use Rattle.lines.specs.Lines.{lines}
 use Rattle.lines.specs.Places.{allowed, parts}
 use Rattle.lines.specs.Laws.{Respaced}
@@ -17,7 +17,6 @@ use Rattle.lines.proofs.Checked.{AllAllowed, parts_allowed}
 use Rattle.operands.specs.Names.{is_name}
 use Rattle.operations.specs.declared.Mnemonic.{Mnemonic}
 use Rattle.operations.specs.Mnemonics.{mnemonic}
-use Rattle.operations.specs.Kinds.{Read}
 use Rattle.operations.specs.Reading.{operation}
 use Rattle.operations.proofs.Within.{within}
 use Rattle.source.specs.Statements.{ReadStatement, label_of, stated, told, lacks_label, operated, begun, statement}
@@ -29,14 +28,14 @@ spacing n one other h =
     let a = space_law one other h in
     (λ i. cond (a.same_check i) (and_then (on_line n (statement n (a.same_parts i))) InStatement (λ s. Ok s)) (Err (ForbiddenByte n)))
 
--- a statement's number is only carried along
-stated_number : (n m : ℕ) (label : Option (List ℕ)) (r : Result Read StatementFault) → under (statement_on m) (under (stated n label) r) ≡ under (stated m label) r
-stated_number n m label (Ok o) = refl
-stated_number n m label (Err e) = refl
+under_under : {X Y Z E : Type 0} (f : Y → Z) (g : X → Y) (r : Result X E) → under f (under g r) ≡ under (λ x. f (g x)) r
+under_under f g (Ok x) = refl
+under_under f g (Err e) = refl
 
+-- a statement's number is only carried along
 told_number : (n m : ℕ) (label : Option (List ℕ)) (fields : List (List ℕ)) (o : Option Mnemonic) → under (statement_on m) (told n label fields o) ≡ told m label fields o
 told_number n m label fields None = refl
-told_number n m label fields (Some k) = stated_number n m label (operation k fields)
+told_number n m label fields (Some k) = under_under (statement_on m) (stated n label) (operation k fields)
 
 cond_under : {X : Type 0} (f : X → X) (b : Bool) (e : StatementFault) (one two : Result X StatementFault) → under f one ≡ two → under f (cond b (Err e) one) ≡ cond b (Err e) two
 cond_under f true e one two h = refl
@@ -54,13 +53,11 @@ begun_number : (n m : ℕ) (first : List ℕ) (rest : List (List ℕ)) (label : 
 begun_number n m first rest None = operated_number n m None (first ∷ rest)
 begun_number n m first rest (Some label) = named_number n m (is_name label) label rest
 
-some_under : (m : ℕ) (r : Result ReadStatement StatementFault) → under (option_map (statement_on m)) (under Some r) ≡ under Some (under (statement_on m) r)
-some_under m (Ok s) = refl
-some_under m (Err e) = refl
-
 statement_number : (n m : ℕ) (ps : List (List ℕ)) → under (option_map (statement_on m)) (statement n ps) ≡ statement m ps
 statement_number n m [] = refl
-statement_number n m (p ∷ ps) = some_under m (begun n p ps (label_of p)) ∙ ap (under Some) (begun_number n m p ps (label_of p))
+statement_number n m (p ∷ ps) =
+    let r = begun n p ps (label_of p) in
+    under_under (option_map (statement_on m)) Some r ∙ sym (under_under Some (statement_on m) r) ∙ ap (under Some) (begun_number n m p ps (label_of p))
 
 placed_number : (n m : ℕ) (r : Result (Option ReadStatement) StatementFault)
     → renumbered m (and_then (on_line n r) InStatement (λ s. Ok s)) ≡ and_then (on_line m (under (option_map (statement_on m)) r)) InStatement (λ s. Ok s)
@@ -83,34 +80,34 @@ abbrev Named : Option (List ℕ) → Type 0
 Named label = MatchOption label Unit (λ name. is_name name ≡ true)
 
 told_range : (n : ℕ) (label : Option (List ℕ)) (fields : List (List ℕ)) (o : Option Mnemonic) (s : ReadStatement) → Named label → AllAllowed fields → told n label fields o ≡ Ok s → InRange n s
-told_range n label fields None s k a h = never (sym h)
+told_range n label fields None s k a h = cc
 told_range n label fields (Some m) s k a h =
     held_under (InRange n) (stated n label) (operation m fields) s h
     (λ o is. record { line = refl; label = k; fields = within m fields o a is; width = refl })
 
 operated_range : (n : ℕ) (label : Option (List ℕ)) (ps : List (List ℕ)) (s : ReadStatement) → Named label → AllAllowed ps → operated n label ps ≡ Ok s → InRange n s
-operated_range n label [] s k a h = never (sym h)
+operated_range n label [] s k a h = cc
 operated_range n label (o ∷ fields) s k a h =
-    held_cond (InRange n) (lacks_label o label) (Err Malformed) _ s h (λ t e. never (sym e)) (λ t e. told_range n label fields (mnemonic o) s k a.1 e)
+    held_cond (InRange n) (lacks_label o label) (Err Malformed) _ s h (λ t e. cc) (λ t e. told_range n label fields (mnemonic o) s k a.1 e)
 
 begun_range : (n : ℕ) (first : List ℕ) (rest : List (List ℕ)) (label : Option (List ℕ)) (s : ReadStatement) → AllAllowed (first ∷ rest) → begun n first rest label ≡ Ok s → InRange n s
 begun_range n first rest None s a h = operated_range n None (first ∷ rest) s tt a h
 begun_range n first rest (Some label) s a h =
-    held_cond (InRange n) (is_name label) _ (Err Malformed) s h (λ named e. operated_range n (Some label) rest s named a.1 e) (λ t e. never (sym e))
+    held_cond (InRange n) (is_name label) _ (Err Malformed) s h (λ named e. operated_range n (Some label) rest s named a.1 e) (λ t e. cc)
 
 statement_range : (n : ℕ) (ps : List (List ℕ)) (s : Option ReadStatement) → AllAllowed ps → statement n ps ≡ Ok s → Ranged n s
-statement_range n [] s a h = subst (Ranged n) (same_value {E = StatementFault} None s h) tt
+statement_range n [] s a h = held_ok (Ranged n) h tt
 statement_range n (p ∷ ps) s a h = held_under (Ranged n) Some (begun n p ps (label_of p)) s h (λ x is. begun_range n p ps (label_of p) x a is)
 
 from_line : (n : ℕ) (r : Result (Option ReadStatement) StatementFault) (s : Option ReadStatement) → and_then (on_line n r) InStatement (λ x. Ok x) ≡ Ok s → r ≡ Ok s
 from_line n (Ok x) s h = ap Ok (same_value {E = AssemblyFault} x s h)
-from_line n (Err e) s h = never (sym h)
+from_line n (Err e) s h = cc
 
 line_range : (n : ℕ) (line : List ℕ) (s : Option ReadStatement) → line_answer n line ≡ Ok s → Ranged n s
 line_range n line s h =
     held_cond (Ranged n) (allowed line) _ (Err (ForbiddenByte n)) s h
     (λ a e. statement_range n (parts line) s (parts_allowed line a) (from_line n (statement n (parts line)) s e))
-    (λ f e. never (sym e))
+    (λ f e. cc)
 
 pub line_reading : LineReading
 line_reading = record { spacing = spacing; numbering = numbering; ranges = λ n line s h. line_range n line (Some s) h }

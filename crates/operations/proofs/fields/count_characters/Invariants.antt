@@ -1,7 +1,10 @@
-use Rattle.faults.specs.Chains.{up_to_fault}
-use Rattle.faults.proofs.Gathers.{Counting}
+use Rattle.std.proofs.Common.{◌≡◌, ◌+◌, ◌≤◌, length}
+use Rattle.faults.specs.Chains.{under, gathered}
 use Rattle.operands.specs.Texts.{characters}
 use Rattle.operations.proofs.fields.count_characters.Given as goal
 
 abbrev pub invariant-loop-character : goal.invariant-loop-character
-invariant-loop-character l = Counting l.count (up_to_fault (characters l.character-iterator.rest.now)) (characters l.initial.text.rest.now)
+invariant-loop-character l =
+    let left = l.character-iterator.rest.now in
+    let all = l.initial.text.rest.now in
+    (under (λ xs. length xs + l.count) (gathered (characters left)) ≡ under length (gathered (characters all))) × (l.count + length left ≤ length all)

@@ -1,7 +1,10 @@
-use Rattle.faults.specs.Chains.{up_to_fault}
-use Rattle.faults.proofs.Gathers.{Counting}
+use Rattle.std.proofs.Common.{◌≡◌, ◌+◌, ◌≤◌, length}
+use Rattle.faults.specs.Chains.{under, gathered}
 use Rattle.operands.specs.Operands.{values}
 use Rattle.operations.proofs.fields.count_values.Given as goal
 
 abbrev pub invariant-loop-value : goal.invariant-loop-value
-invariant-loop-value l = Counting l.count (up_to_fault (values l.value-iterator.rest.now)) (values l.initial.fields.rest.now)
+invariant-loop-value l =
+    let left = l.value-iterator.rest.now in
+    let all = l.initial.fields.rest.now in
+    (under (λ xs. length xs + l.count) (gathered (values left)) ≡ under length (gathered (values all))) × (l.count + length left ≤ length all)

@@ -1,18 +1,8 @@
-use Rattle.std.proofs.Common.{arith, ltb-true}
-use Rattle.std.proofs.lemmas.List.{get_or_past}
+use Rattle.std.proofs.Common.{arith}
 use Rattle.std.proofs.lemmas.Result.{err_from_is_err_and}
 use Rattle.lines.specs.Places.{parts}
-use Rattle.operations.proofs.Takes.{not_quoted, text_taken, text_fault}
+use Rattle.operations.proofs.Takes.{text_taken, text_fault}
 use Rattle.operations.proofs.fields.take_string.Goals as goal
-use Rattle.operations.proofs.fields.take_string.Goals.{in_default-field-via-then-field-lt1, in_default-field-via-else-field-lt1+in_default-1}
-
-pub returns-in_default-field : goal.returns-in_default-field
-returns-in_default-field c =
-    not_quoted (parts c.args.fields.rest.now) _ c.in-Some.field.now c.in-Some.ensures.steps c.in_ok-check_fields.ensures
-    (λ e. elim c.in_default-field.branch [
-      | in_default-field-via-then-field-lt1 w ↦ (let none = get_or_past c.in-Some.field.now 0 0 (omega (arith, ltb-true)) in omega arith)
-      | in_default-field-via-else-field-lt1+in_default-1 w ↦ omega arith
-    ])
 
 pub returns-in_err-count : goal.returns-in_err-count
 returns-in_err-count c =

@@ -91,6 +91,7 @@ fn work<P: Port>(cpu: &mut Cpu, budget: u32, memory: &mut [u16], port: &mut P) -
     ensures bound { result.cycles ≤ budget }
 {
     let mut cycles = 0;
+    // The halt is looked for here too, which takes the same test of each step out of the compiled loop.
     while cycles < budget && !cpu.halted {
         match cpu.step(memory, port) {
             Ok(cost) => cycles += cost,

@@ -46,7 +46,7 @@ fn write_words(words: &[u16], bytes: &mut [u8])
     }
 }
 
-// Reads the word of each two bytes.
+// Reads the word of each two bytes, by its place for the same reason.
 fn read_words(pairs: &[[u8; 2]], words: &mut [u16])
     requires { length pairs.now ≡ length words.old }
     ensures { words.new ≡ map word_of pairs.now }

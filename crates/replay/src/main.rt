@@ -59,6 +59,7 @@ fn run_door<P: Port>(text: &[u8], port: &mut P) -> Result<Report, Refusal> {
     run_image(&DOOR, port)
 }
 
+// A line of 64 bytes holds each refusal.
 fn show_refusal(rt: &HostRuntime, refusal: Refusal) -> io::Result<()> {
     let mut line = [0; 64];
     match write_refusal(refusal, &mut line) {

@@ -28,6 +28,7 @@ comment_stays : (gs : List ℕ) → behind after Comment gs ≡ Comment
 comment_stays [] = refl
 comment_stays (g ∷ gs) = comment_stays gs
 
+-- so no part begins in it
 none_begun : (rest : List ℕ) → begun after gap Comment rest ≡ false
 none_begun [] = refl
 none_begun (c ∷ cs) = refl
@@ -70,5 +71,6 @@ part_ends Text [] (c ∷ cs) o e b = absurd (false≢true (sym b))
 part_ends Escape [] (c ∷ cs) o e b = absurd (false≢true (sym b))
 part_ends Comment [] (c ∷ cs) o e b = absurd o
 
+-- so a line is cut into its parts one by one
 pub place_laws : GapLaws after gap Outside
 place_laws = record { gaps = begins_outside; piece = λ cs rest. part_ends Outside cs rest tt }

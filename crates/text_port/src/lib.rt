@@ -4,7 +4,6 @@
 ghost use Rattle.text_port.specs.Laws.{TokenLaws, SendsLines};
 
 mod checks;
-mod lines;
 mod ports;
 mod tokens;
 

@@ -1,10 +1,19 @@
 // A text port: a port over a lent text to read and a lent buffer for the lines of the words sent.
 ghost use Rattle.std.specs.Prelude.{◌≡◌, ◌*◌, ◌≤◌, [], map, length, Some, Ok, Err};
+ghost use Rattle.text_port.specs.Lines.{line};
 
 use crate::checks::{Refusal, accepted_tokens};
-use crate::lines::write_line;
 use crate::tokens::{Tokens, read_word};
+use numbers::write_hex;
 use port::{Dry, Full, Port};
+
+// Four hexadecimal digits and a line end.
+fn line_of(word: u16) -> [u8; 5]
+    ensures { result ≡ line word }
+{
+    let [first, second, third, fourth] = write_hex(word);
+    [first, second, third, fourth, b'\n']
+}
 
 /// A text to read, and a buffer for the lines of the words sent.
 #[derive(Drop)]
@@ -76,7 +85,8 @@ impl<'i, 'o> Port for TextPort<'i, 'o> {
         if self.lines >= self.output.len() / 5 {
             return Err(Full);
         }
-        write_line(self.output, 5 * self.lines, word);
+        let at = 5 * self.lines;
+        self.output[at..at + 5].copy_from_slice(&line_of(word));
         self.lines += 1;
         Ok(())
     }

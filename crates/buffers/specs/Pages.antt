@@ -1,5 +1,5 @@
 -- What a page holds, and what appending a text to one answers and leaves. Assumes nothing.
-use Rattle.std.specs.Prelude.{ℕ, ◌+◌, cond, List, length, take, Ok, Err, Result, nat_lt}
+use Rattle.std.specs.Prelude.{ℕ, ◌+◌, cond, List, length, take, Ok, Err, Result, min, nat_lt}
 use Rattle.std.specs.Borrow.{GName}
 use Rattle.buffers.specs.declared.Short.{Short}
 use Rattle.buffers.specs.declared.Page.{Page}
@@ -21,6 +21,10 @@ text_of page = take page.len page.buffer
 -- no text yet
 abbrev pub unwritten : List ℕ → Held
 unwritten buffer = record { buffer = buffer; len = 0 }
+
+-- a text that stands there already: the first so many bytes, or all of them
+abbrev pub written : List ℕ → ℕ → Held
+written buffer len = record { buffer = buffer; len = min len (length buffer) }
 
 -- what appending answers, and what the page then holds
 pub record Appended : Type 0 where

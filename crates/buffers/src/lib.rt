@@ -27,7 +27,7 @@ pub struct Page<'a> {
 }
 
 impl<'a> Page<'a> {
-    ghost use Rattle.buffers.specs.Pages.{held, loan_of, text_of, unwritten, appending};
+    ghost use Rattle.buffers.specs.Pages.{held, loan_of, text_of, unwritten, written, appending};
 
     /// A page with no text; the buffer stays as it is.
     pub fn new(buffer: &'a mut [u8]) -> Page<'a>
@@ -35,6 +35,15 @@ impl<'a> Page<'a> {
         ensures holds { held result ≡ unwritten buffer.old }
     {
         Page { buffer, len: 0 }
+    }
+
+    /// A page whose text is the first `len` bytes of the buffer, or all of it; the buffer stays as it is.
+    pub fn with_text(buffer: &'a mut [u8], len: usize) -> Page<'a>
+        ensures loan { loan_of result ≡ buffer.entry.ghost_name }
+        ensures holds { held result ≡ written buffer.old len }
+    {
+        let len = len.min(buffer.len());
+        Page { buffer, len }
     }
 
     /// The text.

@@ -1,5 +1,6 @@
 -- Answers one after another, as `?` joins them. Assumes nothing.
 use Rattle.std.specs.Prelude.{◌≡◌, ℕ, ◌<◌, List, [], ◌∷◌, length, take, Some, None, Ok, Err, Option, Result}
+use Rattle.std.specs.Borrow.{Bor}
 
 -- go on with the value, or stop with the fault as the next layer has it
 abbrev pub and_then : {X Y E F : Type 0} → Result X E → (E → F) → (X → Result Y F) → Result Y F
@@ -19,6 +20,12 @@ under f (Err e) = Err e
 abbrev pub gathered : {X E : Type 0} → List (Result X E) → Result (List X) E
 gathered [] = Ok []
 gathered (r ∷ rs) = then r (λ x. then (gathered rs) (λ xs. Ok (x ∷ xs)))
+
+-- the first of the answers that a text is told as: none is left, a value and the text behind it, or a fault
+abbrev pub First : {X Y E : Type 0} → (List ℕ → List (Result Y E)) → (X → Y) → List ℕ → Result (Option (X × Bor (List ℕ))) E → Type 0
+First told seen before (Ok None) = told before ≡ []
+First told seen before (Ok (Some (x, rest))) = (told before ≡ Ok (seen x) ∷ told rest.now) × (length rest.now < length before)
+First told seen before (Err e) = take 1 (told before) ≡ Err e ∷ []
 
 -- what an iterator over answers removes: nothing is left, the first value is removed, or a fault stands first and behind it nothing is left
 abbrev pub Next : {X Y E : Type 0} → (List ℕ → List (Result Y E)) → (X → Y) → Option (Result X E) → List ℕ → List ℕ → Type 0

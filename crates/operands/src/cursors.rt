@@ -1,7 +1,7 @@
 // The values of a `.fill`, and the characters of a string, one after another.
 ghost use Rattle.std.specs.Prelude.{◌≡◌, ℕ};
 ghost use Rattle.std.specs.Iterator.{item_count};
-ghost use Rattle.faults.specs.Chains.{Next};
+ghost use Rattle.faults.specs.Chains.{First, Next};
 ghost use Rattle.operands.specs.Operands.{values, seen};
 ghost use Rattle.operands.specs.Texts.{escaped, characters};
 
@@ -10,7 +10,18 @@ use faults::{OperandFault, StatementFault};
 use lines::Parts;
 use numbers::Width;
 
-/// The fields of a line's rest, each a number of 16 bits or a label. Behind a fault nothing is left.
+/// The first of the fields of a line's rest, a number of 16 bits or a label, and the rest behind it.
+pub fn first_value(rest: &[u8]) -> Result<Option<(Immediate<&[u8]>, &[u8])>, OperandFault>
+    ensures { First values seen rest.now result }
+{
+    let mut fields = Parts::new(rest);
+    let Some(field) = fields.next() else {
+        return Ok(None);
+    };
+    Ok(Some((read_immediate(field, Width::Sixteen)?, fields.rest)))
+}
+
+/// The values in the fields of a line's rest. Behind a fault nothing is left.
 #[derive(Clone, Copy)]
 pub struct Values<'a> {
     pub rest: &'a [u8],
@@ -24,26 +35,43 @@ impl<'a> Iterator for Values<'a> {
     ghost remaining = { item_count (λ s. values s.rest.now) };
 
     fn next(&mut self) -> Option<Result<Immediate<&'a [u8]>, OperandFault>> {
-        let mut fields = Parts::new(self.rest);
-        let value = read_immediate(fields.next()?, Width::Sixteen);
-        self.rest = if value.is_ok() { fields.rest } else { &[] };
-        Some(value)
+        match first_value(self.rest) {
+            Ok(first) => {
+                let (value, rest) = first?;
+                self.rest = rest;
+                Some(Ok(value))
+            }
+            Err(fault) => {
+                self.rest = &[];
+                Some(Err(fault))
+            }
+        }
     }
 }
 
 fn read_escape(b: u8) -> Result<u8, StatementFault>
     ensures { result ≡ escaped b }
 {
-    match b {
-        b'n' => Ok(b'\n'),
-        b't' => Ok(b'\t'),
-        b'"' | b'\\' => Ok(b),
+    match char::from(b) {
+        'n' => Ok(b'\n'),
+        't' => Ok(b'\t'),
+        '"' => Ok(b'"'),
+        '\\' => Ok(b'\\'),
         _ => Err(StatementFault::Malformed),
     }
 }
 
-// A text of which only the closing quote is left.
-const CLOSED: &[u8] = b"\"";
+/// The first character of a string and the bytes behind it; none at a closing quote that stands last.
+pub fn first_character(text: &[u8]) -> Result<Option<(u8, &[u8])>, StatementFault>
+    ensures { First characters (λ n. n) text.now result }
+{
+    match text {
+        [b'"'] => Ok(None),
+        [] | [b'"', ..] | [b'\\'] => Err(StatementFault::Malformed),
+        [b'\\', taken, rest @ ..] => Ok(Some((read_escape(*taken)?, rest))),
+        [first, rest @ ..] => Ok(Some((*first, rest))),
+    }
+}
 
 /// The bytes of a string behind its opening quote. Behind a fault nothing is left.
 #[derive(Clone, Copy)]
@@ -59,13 +87,17 @@ impl<'a> Iterator for Text<'a> {
     ghost remaining = { item_count (λ s. characters s.rest.now) };
 
     fn next(&mut self) -> Option<Result<u8, StatementFault>> {
-        let (character, rest) = match self.rest {
-            [b'"'] => return None,
-            [] | [b'"', ..] | [b'\\'] => (Err(StatementFault::Malformed), CLOSED),
-            [b'\\', taken, rest @ ..] => (read_escape(*taken), rest),
-            [first, rest @ ..] => (Ok(*first), rest),
-        };
-        self.rest = if character.is_ok() { rest } else { CLOSED };
-        Some(character)
+        match first_character(self.rest) {
+            Ok(first) => {
+                let (character, rest) = first?;
+                self.rest = rest;
+                Some(Ok(character))
+            }
+            Err(fault) => {
+                // A closing quote alone has no characters.
+                self.rest = b"\"";
+                Some(Err(fault))
+            }
+        }
     }
 }

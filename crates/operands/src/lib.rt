@@ -4,5 +4,5 @@
 mod cursors;
 mod fields;
 
-pub use cursors::{Text, Values};
+pub use cursors::{Text, Values, first_character, first_value};
 pub use fields::{Immediate, is_name, read_constant, read_immediate, read_register};

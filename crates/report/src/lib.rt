@@ -64,7 +64,9 @@ fn append_decimal(n: u64, page: &mut Page<'_>) -> Result<(), Short>
     ensures loan { loan_of page.new ≡ loan_of page.old }
     ensures added { Added (decimal n) (held page.old) result (held page.new) }
 {
-    page.append(write_decimal(n, &mut [0; 20]))
+    let mut places = [0; 20];
+    let from = write_decimal(n, &mut places);
+    page.append(&places[from..])
 }
 
 // Appends what stands behind a refusal's number.

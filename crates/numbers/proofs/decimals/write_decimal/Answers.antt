@@ -3,13 +3,12 @@ use Rattle.std.proofs.lemmas.List.{take_all, length-drop, length-set}
 use Rattle.numbers.proofs.Places.{fewer, last_place, one_place}
 use Rattle.numbers.proofs.decimals.write_decimal.Goals as goal
 
-pub returns-then-left-eq0 : goal.returns-then-left-eq0
-returns-then-left-eq0 c =
+pub returns-then-left-eq0-clause-digits : goal.returns-then-left-eq0-clause-digits
+returns-then-left-eq0-clause-digits c =
     let at = c.loop-at.at - 1 in
     let next : at + 1 ≡ c.loop-at.at = omega arith in
     let so_far = rw (← next) at c.loop-at.invariant.digits in
-    let written = last_place c.args.n c.loop-at.left at c.loop-at.places so_far (omega arith) (omega arith) in
-    take_all (20 - at) _ (simp (length-drop, length-set) (omega arith)) ∙ sym written
+    sym (last_place c.args.n c.loop-at.left at c.loop-at.places so_far (omega arith) (omega arith))
 
 pub loop-at-preserved : goal.loop-at-preserved
 loop-at-preserved c =

@@ -95,13 +95,10 @@ fn count_characters(text: Text<'_>) -> Result<usize, StatementFault>
 pub(crate) fn take_string(mut fields: Parts<'_>) -> Result<(Text<'_>, usize), StatementFault>
     ensures { under (λ t. (seen_text t.0, t.1)) result ≡ under terminated (string (parts fields.entry.rest.now)) }
 {
-    let Some(field) = fields.next() else {
+    let Some([b'"', rest @ ..]) = fields.next() else {
         return Err(StatementFault::Malformed);
     };
     check_fields(fields, 0)?;
-    let [b'"', rest @ ..] = field else {
-        return Err(StatementFault::Malformed);
-    };
     let text = Text { rest };
     let count = count_characters(text)?;
     Ok((text, count + 1))

@@ -84,6 +84,7 @@ impl Cpu {
         if self.halted {
             return Err(Stop::Halted);
         }
+        // A test and an index, here and below: read by `get`, four goals of the returns stay open.
         let at = self.pc as usize;
         if at >= memory.len() {
             return Err(Stop::Outside);

@@ -12,7 +12,7 @@ use port::{Dry, Full, Port};
 use words::{Instruction, Register, RegisterFile, shift};
 
 /// Why a run ended.
-#[derive(Clone, Copy, PartialEq, Eq)]
+#[derive(Clone, Copy, PartialEq, Eq, Debug)]
 pub enum Stop {
     /// The budget is done.
     Spent = 0,

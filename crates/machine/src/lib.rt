@@ -26,7 +26,7 @@ const MOST_BUDGET: u32 = 1_000_000;
 const MOST_CYCLES: u32 = 100_000_000;
 
 /// Why a call was refused. Each refusal leaves machine, memory and port as they were.
-#[derive(Clone, Copy, PartialEq, Eq)]
+#[derive(Clone, Copy, PartialEq, Eq, Debug)]
 pub enum Refusal {
     /// The memory has fewer than 64 or more than 65,536 words, or not as many as were loaded.
     Memory = 4,
@@ -41,7 +41,7 @@ pub enum Refusal {
 }
 
 /// How a run ended, and the cycles done.
-#[derive(Clone, Copy, PartialEq, Eq)]
+#[derive(Clone, Copy, PartialEq, Eq, Debug)]
 pub struct Report {
     pub stop: Stop,
     pub cycles: u32,

@@ -4,7 +4,7 @@ use words::{Function, Register, Test, ThreeRegisters, TwoRegisters};
 
 /// Operands of `addi`, `shf`, `lw` and `sw`.
 // The number is no `Imm6`: the check makes no proof yet over an enum that holds references beside a struct with a ghost field.
-#[derive(Clone, Copy)]
+#[derive(Clone, Copy, PartialEq, Eq, Debug)]
 pub struct RegistersNumber {
     pub rd: Register,
     pub rs1: Register,
@@ -13,14 +13,14 @@ pub struct RegistersNumber {
 }
 
 /// Operands of `lli`, `lui`, `lwi` and the branches.
-#[derive(Clone, Copy)]
+#[derive(Clone, Copy, PartialEq, Eq, Debug)]
 pub struct RegisterImmediate<N> {
     pub rd: Register,
     pub imm: Immediate<N>,
 }
 
 /// Operands of `push` and `pop`: the stack pointer, and the register stored or loaded.
-#[derive(Clone, Copy)]
+#[derive(Clone, Copy, PartialEq, Eq, Debug)]
 pub struct StackRegisters {
     pub sp: Register,
     pub register: Register,

@@ -5,7 +5,7 @@ ghost use Rattle.operations.specs.Mnemonics.{name_of, named, mnemonic};
 use words::{Function, Test};
 
 /// An operation by its name.
-#[derive(Clone, Copy)]
+#[derive(Clone, Copy, PartialEq, Eq, Debug)]
 pub enum Mnemonic {
     Compute(Function),
     Not,

@@ -12,7 +12,7 @@ pub use buffers::Short;
 use numbers::write_decimal;
 
 /// Why a call was refused, by the kind of the call.
-#[derive(Clone, Copy, PartialEq, Eq)]
+#[derive(Clone, Copy, PartialEq, Eq, Debug)]
 pub enum Refusal {
     /// The machine's: load, run, look, peek.
     Machine(machine::Refusal),

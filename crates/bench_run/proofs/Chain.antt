@@ -1,9 +1,11 @@
 -- A new machine loaded and run over a port of some meaning, as the definitions tell it.
-use Rattle.std.proofs.Common.{◌≡◌, ℕ, suc, ◌+◌, ◌-◌, ◌<◌, ◌≤◌, List, sym, refl, ap, ◌∙◌, arith}
+use Rattle.std.proofs.Common.{◌≡◌, ℕ, suc, ◌+◌, ◌-◌, ◌<◌, ◌≤◌, List, Ok, Err, Result, MatchResult, sym, refl, ap, ◌∙◌, arith}
 use Rattle.port.specs.Meaning.{Meaning}
 use Rattle.port.specs.Tape as tape
-use Rattle.machine.specs.Calls.{Standing, unloaded, loading, running}
-use Rattle.bench_run.specs.Timed.{runs_from, timed}
+use Rattle.machine.specs.declared.Look.{Look}
+use Rattle.machine.specs.declared.Refusal.{Refusal}
+use Rattle.machine.specs.Calls.{Standing, unloaded, loading, running, shown}
+use Rattle.bench_run.specs.Timed.{runs_from, timed, count_of}
 
 pub timed_is : {m : Meaning} {before after end : Standing} (image memory input output : List ℕ) (runs : ℕ)
     → m ≡ tape.fresh input output
@@ -27,3 +29,8 @@ again runs i s t whole h p so_far =
 pub over : (runs i : ℕ) (s whole : Standing) → runs ≤ i → runs_from (runs - i) s ≡ whole → s ≡ whole
 unfolding runs_from
 over runs i s whole h so_far = let none : 0 ≡ runs - i = omega arith in ap (λ n. runs_from n s) none ∙ so_far
+
+-- what a look's count or else 0 is, by what is known of it behind a look
+pub counted : {P : Look → Type 0} (a : Result Look Refusal) (n : ℕ) → ((l : Look) → P l → n ≡ l.count) → MatchResult a P (λ _. n ≡ 0) → n ≡ count_of (shown a)
+counted (Ok l) n f e = f l e
+counted (Err refusal) n f e = e

@@ -35,8 +35,5 @@ pub extern "C" fn bench_run(
     let mut tape = Tape::new(input, output);
     let _ = machine.load(image, memory);
     run_on(&mut machine, runs, memory, &mut tape);
-    match machine.look(memory) {
-        Ok(look) => look.count,
-        Err(_) => 0,
-    }
+    machine.look(memory).map_or(0, |look| look.count)
 }

@@ -37,6 +37,7 @@ impl Stop {
     }
 }
 
+// By hand, here and below: no derive writes `from_gives`, by which a clause knows the stop that a `?` makes.
 impl From<Dry> for Stop {
     ghost from_gives = { λ _ s. s ≡ stop_dry };
 
@@ -54,9 +55,10 @@ impl From<Full> for Stop {
 }
 
 /// Registers and program counter, and whether the halting word has been done.
-#[derive(Clone, Copy)]
+#[derive(Clone, Copy, PartialEq, Eq, Debug)]
 pub struct Cpu {
     pub pc: u16,
+    // A flag alone: the other fields mean the same either way.
     pub halted: bool,
     // Last, so that a write to a register, by its number, is seen to leave the fields above alone.
     pub registers: RegisterFile,
@@ -89,9 +91,7 @@ impl Cpu {
         if at >= memory.len() {
             return Err(Stop::Outside);
         }
-        let Some(instruction) = Instruction::decode(memory[at]) else {
-            return Err(Stop::Unassigned);
-        };
+        let instruction = Instruction::decode(memory[at]).ok_or(Stop::Unassigned)?;
         let next = self.pc.wrapping_add(1);
         self.pc = match instruction {
             Instruction::Compute(function, o) => {

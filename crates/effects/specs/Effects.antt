@@ -52,7 +52,7 @@ module _ (place : ℕ) (rs : List ℕ) where
     pub ands : (o : ThreeRegisters) → Puts (Compute And o) o.rd (λ w. (k : ℕ) → bit w k ≡ min (bit (reading rs o.rs1) k) (bit (reading rs o.rs2) k))
     pub ors : (o : ThreeRegisters) → Puts (Compute Or o) o.rd (λ w. (k : ℕ) → bit w k ≡ max (bit (reading rs o.rs1) k) (bit (reading rs o.rs2) k))
     pub negates : (o : TwoRegisters) → Puts (Not o) o.rd (λ w. Represents w (neg_ℤ (holds o.rs1) -ℤ pos 1))
-    -- the place becomes the old word of Rd, while Rs1 receives the place behind
+    -- the place becomes the word that Rd held before, while Rs1 receives the place behind
     pub jumps : (o : TwoRegisters) → act (Jalr o) place rs ≡ go (written rs o.rs1 ((place + 1) % 65536)) (reading rs o.rd)
     pub takes : (rd : Register) → act (In rd) place rs ≡ take_word rd
     pub halts : act (Out R0) place rs ≡ halt

@@ -5,7 +5,7 @@ ghost use Rattle.std.specs.Prelude.{◌≡◌, ℕ, ◌≤◌, List, length, Som
 ghost use Rattle.buffers.specs.Buffers.{padded};
 ghost use Rattle.port.specs.Meaning.{Meaning};
 ghost use Rattle.cpu.specs.States.{state};
-ghost use Rattle.machine.specs.declared.TheConstants.{FEWEST_WORDS, MOST_WORDS, MOST_CYCLES};
+ghost use Rattle.machine.specs.declared.TheConstants.{MIN_WORDS, MAX_WORDS, MAX_CYCLES};
 ghost use Rattle.machine.specs.Refusals.{refusal_number};
 ghost use Rattle.machine.specs.Runs.{run_of, ran_as};
 
@@ -13,17 +13,16 @@ use cpu::{Cpu, Stop};
 use port::Port;
 use words::RegisterFile;
 
-// The fewest words of a memory.
-const FEWEST_WORDS: usize = 64;
+// How many words a memory may have.
+const MIN_WORDS: usize = 64;
 
-// The most words of a memory.
-const MOST_WORDS: usize = 65_536;
+const MAX_WORDS: usize = 65_536;
 
 // The most cycles that one run may be given.
-const MOST_BUDGET: u32 = 1_000_000;
+const MAX_BUDGET: u32 = 1_000_000;
 
 // The most cycles of all runs since a load.
-const MOST_CYCLES: u32 = 100_000_000;
+const MAX_CYCLES: u32 = 100_000_000;
 
 /// Why a call was refused. Each refusal leaves machine, memory and port as they were.
 #[derive(Clone, Copy, PartialEq, Eq, Debug)]
@@ -48,21 +47,22 @@ pub struct Report {
 }
 
 /// Registers, program counter, and the cycles done since the load.
-#[derive(Clone, Copy)]
+#[derive(Clone, Copy, PartialEq, Eq, Debug)]
 pub struct Look {
     pub registers: RegisterFile,
     pub pc: u16,
     pub count: u32,
 }
 
-#[derive(Clone, Copy)]
+// Memory and port are lent to each call, and not as one struct: `load`, `look` and `peek` take no port.
+#[derive(Clone, Copy, PartialEq, Eq, Debug)]
 pub struct Machine {
     // The words of the loaded memory, none before a first load.
     size: Option<usize>,
     count: u32,
     cpu: Cpu,
-    ghost fits: { (words : ℕ) → size ≡ Some words → (FEWEST_WORDS ≤ words) × (words ≤ MOST_WORDS) },
-    ghost within: { count ≤ MOST_CYCLES },
+    ghost fits: { (words : ℕ) → size ≡ Some words → (MIN_WORDS ≤ words) × (words ≤ MAX_WORDS) },
+    ghost within: { count ≤ MAX_CYCLES },
 }
 
 impl Refusal {
@@ -86,7 +86,7 @@ fn lay(image: &[u16], memory: &mut [u16])
 
 // Does words until the budget is done or a stop comes.
 fn work<P: Port>(cpu: &mut Cpu, budget: u32, memory: &mut [u16], port: &mut P) -> Report
-    requires { budget ≤ MOST_BUDGET }
+    requires { budget ≤ MAX_BUDGET }
     ensures answer { ran_as result (state cpu.new memory.new (P.meaning port.new)) ≡ run_of budget (state cpu.old memory.old (P.meaning port.old)) }
     ensures bound { result.cycles ≤ budget }
 {
@@ -121,7 +121,7 @@ impl Machine {
     }
 
     // Refuses a memory that has not as many words as were loaded.
-    fn expect(&self, memory: &[u16]) -> Result<(), Refusal>
+    fn check_memory(&self, memory: &[u16]) -> Result<(), Refusal>
         ensures { result ≡ sized self.now.size (length memory.now) }
     {
         if self.size != Some(memory.len()) {
@@ -136,7 +136,7 @@ impl Machine {
         ensures answer { (port : Meaning) → result ≡ (loading image.now (stands self.old memory.old port)).answer }
         ensures kept { OnErr result ((self.new ≡ self.old) × (memory.new ≡ memory.old)) }
     {
-        if !(FEWEST_WORDS..=MOST_WORDS).contains(&memory.len()) {
+        if !(MIN_WORDS..=MAX_WORDS).contains(&memory.len()) {
             return Err(Refusal::Memory);
         }
         if image.len() > memory.len() {
@@ -160,11 +160,11 @@ impl Machine {
         ensures answer { result ≡ (running budget (stands self.old memory.old (P.meaning port.old))).answer }
         ensures kept { OnErr result ((self.new ≡ self.old) × (memory.new ≡ memory.old) × (port.new ≡ port.old)) }
     {
-        self.expect(memory)?;
-        if budget > MOST_BUDGET {
+        self.check_memory(memory)?;
+        if budget > MAX_BUDGET {
             return Err(Refusal::Budget);
         }
-        if self.count + budget > MOST_CYCLES {
+        if self.count + budget > MAX_CYCLES {
             return Err(Refusal::Count);
         }
         let report = work(&mut self.cpu, budget, memory, port);
@@ -176,7 +176,7 @@ impl Machine {
     pub fn look(&self, memory: &[u16]) -> Result<Look, Refusal>
         ensures { (port : Meaning) → shown result ≡ looking (stands self.now memory.now port) }
     {
-        self.expect(memory)?;
+        self.check_memory(memory)?;
         Ok(Look {
             registers: self.cpu.registers,
             pc: self.cpu.pc,
@@ -188,7 +188,7 @@ impl Machine {
     pub fn peek(&self, at: usize, memory: &[u16]) -> Result<u16, Refusal>
         ensures { (port : Meaning) → result ≡ peeking at (stands self.now memory.now port) }
     {
-        self.expect(memory)?;
+        self.check_memory(memory)?;
         memory.get(at).copied().ok_or(Refusal::Address)
     }
 }

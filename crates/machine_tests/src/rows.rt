@@ -16,7 +16,7 @@ enum Change {
     // The word sent.
     Sends(u16),
     Halts,
-    // The stop, at no cost.
+    // The stop, at no cost; by its printed number, so that `Stop::number` is tested too.
     Stops(u8),
 }
 
@@ -46,7 +46,7 @@ static PLACES: [Place; 18] = [
     Place(10, 0x7640, [0xD5, 0, 2, 0], Stores(0xD5, 2), 11), // sw r3 r1 0
 ];
 
-// As `Place`, at place 4, with r1 to r3.
+// As `Place`, at place 4, with r1 to r3: shorter rows, for the many words at one place.
 struct Row(u16, [u16; 3], Change, u16);
 
 static ROWS: [Row; 102] = [
@@ -165,9 +165,11 @@ static ROWS: [Row; 102] = [
 ];
 
 // Sets r1 to r7 by 14 words from 32 on and goes to the word's place, which takes 16 cycles.
+// Place, word and registers are passed on as they are, here and below: a struct would be built for each row.
 fn scene(at: usize, word: u16, before: [u16; 8]) -> [u16; 64] {
     let mut image = [0; 64];
     image[0] = 0xA01F;
+    // By number: each register sets two places of the image.
     for r in 1..8usize {
         let n = r as u16;
         image[2 * r + 30] = 0x8000 + 512 * n + before[r] % 256;
@@ -250,6 +252,7 @@ fn wrong_place(places: &[Place]) -> Option<usize> {
     })
 }
 
+// Apart from `wrong_place`: the rows differ in their fields, and `agrees` has what they share.
 fn wrong_row(rows: &[Row]) -> Option<usize> {
     rows.iter().position(|row| {
         let [r1, r2, r3] = row.1;

@@ -19,6 +19,7 @@ pub struct Trial<'a> {
 /// What the last run answered, and what look, the port and peek then show.
 #[derive(Clone, Copy, PartialEq)]
 pub struct Seen {
+    // By its printed number, so that `Stop::number` is tested too.
     pub stop: u8,
     pub cycles: u32,
     pub pc: u16,

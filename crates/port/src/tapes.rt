@@ -3,13 +3,14 @@ ghost use Rattle.std.specs.Prelude.{◌≡◌, ◌≤◌, length};
 
 use crate::{Dry, Full, Port};
 
+// Not a `Page`, whose places are bytes: the places of a tape are words.
 /// A list of words to read, and a buffer for the words sent.
 #[derive(Drop)]
 pub struct Tape<'i, 'o> {
     // The words not read yet.
     input: &'i [u16],
     output: &'o mut [u16],
-    // How many places of the output are written.
+    // How many places of the output are written; a count and no shorter slice, since `sent` shows the front.
     count: usize,
     ghost within: { count ≤ length output.now },
 }

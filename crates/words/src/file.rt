@@ -36,6 +36,7 @@ impl RegisterFile {
     }
 }
 
+// By hand: `Default` is not derived beside a ghost field.
 impl Default for RegisterFile {
     ghost is_default = { λ f. f.words ≡ zeros };
 

@@ -77,6 +77,7 @@ pub enum Instruction {
 }
 
 // Of each kind of operands: `from_word` reads them from a word, and `fields` is what they are of one, without its opcode.
+// No trait for the two, and no type for what is below 4096: nothing is written over all four kinds, and `pack` alone reads the bound.
 
 impl ThreeRegisters {
     fn from_word(word: u16) -> Self
@@ -225,13 +226,8 @@ fn read(word: u16) -> Option<Instruction>
         },
         1 => Some(Instruction::Jalr(TwoRegisters::from_word(word))),
         2 => Some(Instruction::In(Register::from_bits(word / 512))),
-        3 => {
-            if word % 8 == 0 {
-                Some(Instruction::Out(Register::from_bits(word / 512)))
-            } else {
-                None
-            }
-        }
+        3 if word % 8 == 0 => Some(Instruction::Out(Register::from_bits(word / 512))),
+        3 => None,
         4 => Some(Instruction::Addi(RegistersImm6::from_word(word))),
         5 => Some(Instruction::Shf(RegistersImm6::from_word(word))),
         6 => Some(Instruction::Lw(RegistersImm6::from_word(word))),
@@ -268,6 +264,7 @@ fn pack(instruction: Instruction) -> u16
 }
 
 impl Instruction {
+    // Not `TryFrom` and `From`: none stands for an unassigned word with no type of error, and the names say which way a call goes.
     /// The instruction that a word stands for; unassigned words have none.
     #[tactic(auto, using(crate::proofs::Codes::reads_back))]
     pub fn decode(word: u16) -> Option<Self>

@@ -23,6 +23,7 @@ impl Register {
         self as u16
     }
 
+    // Not a `From`: bits above the low three are dropped.
     /// The register that the low three bits name.
     pub fn from_bits(bits: u16) -> Register
         ensures value { result ≡ register_of bits }

@@ -11,7 +11,7 @@ use lines::Parts;
 use numbers::Width;
 
 /// The first of the fields of a line's rest, a number of 16 bits or a label, and the rest behind it.
-// Apart from `next`, which has no clause but the trait's; an `Option` inside, so that a fault leaves by `?`, and none is no fault.
+// Apart from `next`, which has only the trait's clauses; an `Option` inside, since a fault leaves by `?` and none is no fault.
 pub fn first_value(rest: &[u8]) -> Result<Option<(Immediate<&[u8]>, &[u8])>, OperandFault>
     ensures { First values seen rest.now result }
 {

@@ -65,7 +65,7 @@ pub(crate) fn only_field<'a>(mut fields: Parts<'a>) -> Result<&'a [u8], Statemen
     next_field(&mut fields)
 }
 
-// Two counts: one over any iterator of answers could only speak of what its `next` gave, and not of a line's values.
+// Two counts: tried as one over any iterator, but no clause ranges over types, and a line's values are not of its items' type.
 fn count_values(fields: Values<'_>) -> Result<usize, OperandFault>
     ensures { result ≡ under length (gathered (values fields.entry.rest.now)) }
 {

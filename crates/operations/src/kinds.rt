@@ -3,7 +3,7 @@ use operands::{Immediate, Text, Values};
 use words::{Function, Register, Test, ThreeRegisters, TwoRegisters};
 
 /// Operands of `addi`, `shf`, `lw` and `sw`.
-// No `Imm6`: over an enum of references and a struct with a ghost field there is no proof, and a type parameter in every signature is no plainer.
+// No `Imm6`: its ghost field leaves an enum that holds references unproved, and a fourth type parameter in every signature is no plainer.
 #[derive(Clone, Copy, PartialEq, Eq, Debug)]
 pub struct RegistersNumber {
     pub rd: Register,
@@ -21,7 +21,7 @@ pub struct RegisterImmediate<N> {
 }
 
 /// Operands of `push` and `pop`: the stack pointer, and the register stored or loaded.
-// Not `TwoRegisters`: the stack pointer is written first, and is no `rd`.
+// Not `TwoRegisters`: the stack pointer is written first, and is the `rs1` of the store or load.
 #[derive(Clone, Copy, PartialEq, Eq, Debug)]
 pub struct StackRegisters {
     pub sp: Register,

@@ -62,6 +62,7 @@ pub enum Layer {
     Label,
 }
 
+// These are by hand: by `from_gives` a clause knows which variant `?` makes.
 impl From<OperandFault> for StatementFault {
     ghost from_gives = { λ e r. r ≡ InOperand e };
 
@@ -105,6 +106,7 @@ impl StatementFault {
 
 impl AssemblyFault {
     /// The refusal's number.
+    // Not by discriminants: a variant holds a value.
     pub fn number(self) -> u8
         ensures { result ≡ (told self).number }
     {
@@ -116,6 +118,7 @@ impl AssemblyFault {
     }
 
     /// The line, counted from 1; 0 where the whole source is refused.
+    // A number and not an `Option`: 0 is the line printed where the whole source is refused.
     pub fn line(self) -> usize
         ensures { result ≡ (told self).line }
     {

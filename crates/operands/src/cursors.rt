@@ -11,6 +11,7 @@ use lines::Parts;
 use numbers::Width;
 
 /// The first of the fields of a line's rest, a number of 16 bits or a label, and the rest behind it.
+// Apart from `next`, which has only the trait's clauses; an `Option` inside, since a fault leaves by `?` and none is no fault.
 pub fn first_value(rest: &[u8]) -> Result<Option<(Immediate<&[u8]>, &[u8])>, OperandFault>
     ensures { First values seen rest.now result }
 {
@@ -22,6 +23,7 @@ pub fn first_value(rest: &[u8]) -> Result<Option<(Immediate<&[u8]>, &[u8])>, Ope
 }
 
 /// The values in the fields of a line's rest. Behind a fault nothing is left.
+// Not one type with `Text`: each has its own items, faults and end.
 #[derive(Clone, Copy)]
 pub struct Values<'a> {
     pub rest: &'a [u8],
@@ -62,6 +64,7 @@ fn read_escape(b: u8) -> Result<u8, StatementFault>
 }
 
 /// The first character of a string and the bytes behind it; none at a closing quote that stands last.
+// Apart from `next`, and an `Option` inside, as for `first_value`.
 pub fn first_character(text: &[u8]) -> Result<Option<(u8, &[u8])>, StatementFault>
     ensures { First characters (λ n. n) text.now result }
 {
@@ -94,7 +97,7 @@ impl<'a> Iterator for Text<'a> {
                 Some(Ok(character))
             }
             Err(fault) => {
-                // A closing quote alone has no characters.
+                // Nothing left: a closing quote alone has no characters.
                 self.rest = b"\"";
                 Some(Err(fault))
             }

@@ -24,6 +24,7 @@ fn is_name_byte(b: u8) -> bool
     b.is_ascii_alphanumeric() || b == b'_'
 }
 
+// By itself: its clause says what the chain finds.
 fn are_name_bytes(text: &[u8]) -> bool
     ensures { result ≡ list_all name_byte text.now }
 {

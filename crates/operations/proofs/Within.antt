@@ -24,7 +24,7 @@ use Rattle.operations.specs.declared.kinds.RegistersNumber.{RegistersNumber}
 use Rattle.operations.specs.declared.kinds.RegisterImmediate.{RegisterImmediate}
 use Rattle.operations.specs.declared.kinds.Operation.TheVariants.{Compute, Not, Jalr, In, Out, Addi, Shf, Lw, Sw, Lli, Lui, Branch, Br, Halt, Jmp, Mov, Lwi, Push, Pop, Fill, Cstr, Def}
 use Rattle.operations.specs.Kinds.{Read}
-use Rattle.operations.specs.Fields.{exactly, first_field, some_fields, string}
+use Rattle.operations.specs.Fields.{exactly, first_field, only_field, some_fields, string}
 use Rattle.operations.specs.Reading.{operand, registers_number, register_immediate, all_values, operation}
 use Rattle.operations.specs.Ranges.{Fits, AllFit, Character, AllCharacters, FieldsInRange}
 
@@ -130,12 +130,11 @@ register_range bits fs o h =
 
 -- the only field
 only_range : {X : Type 0} (P : X → Type 0) (read : List ℕ → Result X OperandFault) → ((f : List ℕ) (x : X) → read f ≡ Ok x → P x)
-    → (fs : List (List ℕ)) (x : X) → then (exactly 1 fs) (λ right. then (first_field fs) (λ a. operand (read a.0))) ≡ Ok x → P x
+    → (fs : List (List ℕ)) (x : X) → then (only_field fs) (λ f. operand (read f)) ≡ Ok x → P x
 only_range P read all fs x h =
-    held_and_then P (exactly 1 fs) (λ e. e) _ x h
-    (λ right is k. held_and_then P (first_field fs) (λ e. e) _ x k
-    (λ a is k. held_and_then P (read a.0) InOperand _ x k
-    (λ y is k. held_ok P k (all a.0 y is))))
+    held_and_then P (only_field fs) (λ e. e) _ x h
+    (λ f is k. held_and_then P (read f) InOperand _ x k
+    (λ y is k. held_ok P k (all f y is)))
 
 all_range : (fs : List (List ℕ)) (vs : List (Immediate (List ℕ))) → all_values fs ≡ Ok vs → AllFit 16 vs
 all_range fs vs h =

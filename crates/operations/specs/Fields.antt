@@ -3,7 +3,7 @@ use Rattle.std.specs.Prelude.{ℕ, ◌+◌, Bool, cond, not, List, [], ◌∷◌
 use Rattle.std.specs.List.{list_any, list_all}
 use Rattle.faults.specs.declared.StatementFault.{StatementFault}
 use Rattle.faults.specs.declared.StatementFault.TheVariants.{Malformed}
-use Rattle.faults.specs.Chains.{then, gathered}
+use Rattle.faults.specs.Chains.{then, under, gathered}
 use Rattle.operands.specs.Texts.{characters}
 
 -- a field without a quote
@@ -26,6 +26,10 @@ some_fields fs = cond (length fs == 0) (Err Malformed) (plain_fields fs)
 abbrev pub first_field : List (List ℕ) → Result (List ℕ × List (List ℕ)) StatementFault
 first_field [] = Err Malformed
 first_field (f ∷ fs) = Ok (f, fs)
+
+-- one field and no more, which is no text
+abbrev pub only_field : List (List ℕ) → Result (List ℕ) StatementFault
+only_field fs = then (exactly 1 fs) (λ right. under (λ a. a.0) (first_field fs))
 
 -- items with their number
 abbrev pub numbered : {X : Type 0} → List X → List X × ℕ

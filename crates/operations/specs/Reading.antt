@@ -16,7 +16,7 @@ use Rattle.operations.specs.declared.kinds.RegistersNumber.{RegistersNumber}
 use Rattle.operations.specs.declared.kinds.RegisterImmediate.{RegisterImmediate}
 use Rattle.operations.specs.declared.kinds.StackRegisters.{StackRegisters}
 use Rattle.operations.specs.declared.kinds.Operation.TheVariants.{Compute, Not, Jalr, In, Out, Addi, Shf, Lw, Sw, Lli, Lui, Branch, Br, Halt, Jmp, Mov, Lwi, Push, Pop, Fill, Cstr, Def}
-use Rattle.operations.specs.Fields.{exactly, some_fields, first_field, string}
+use Rattle.operations.specs.Fields.{exactly, some_fields, first_field, only_field, string}
 use Rattle.operations.specs.Kinds.{Read}
 
 -- an operand's answer as its statement's
@@ -56,10 +56,10 @@ register_immediate bits fs =
     then (first_field a.1) (λ b. and_then (immediate bits b.0) InOperand (λ imm. Ok (record { rd = rd; imm = imm }))))))
 
 abbrev pub one_immediate : List (List ℕ) → Result (Immediate (List ℕ)) StatementFault
-one_immediate fs = then (exactly 1 fs) (λ right. then (first_field fs) (λ a. operand (immediate 8 a.0)))
+one_immediate fs = then (only_field fs) (λ f. operand (immediate 8 f))
 
 abbrev pub one_constant : List (List ℕ) → Result ℕ StatementFault
-one_constant fs = then (exactly 1 fs) (λ right. then (first_field fs) (λ a. operand (constant 16 a.0)))
+one_constant fs = then (only_field fs) (λ f. operand (constant 16 f))
 
 abbrev pub all_values : List (List ℕ) → Result (List (Immediate (List ℕ))) StatementFault
 all_values fs = then (some_fields fs) (λ some. operand (gathered (map (immediate 16) fs)))

@@ -6,14 +6,14 @@ ghost use Rattle.faults.specs.Chains.{under, gathered};
 ghost use Rattle.operands.specs.Operands.{values};
 ghost use Rattle.operands.specs.Texts.{characters};
 ghost use Rattle.operations.specs.Reading.{all_values};
-ghost use Rattle.operations.specs.Fields.{plain, plain_fields, exactly, some_fields, first_field, numbered, terminated, string};
+ghost use Rattle.operations.specs.Fields.{plain, plain_fields, exactly, some_fields, first_field, only_field, numbered, terminated, string};
 ghost use Rattle.operations.specs.Kinds.{seen_values, seen_text};
 
 use faults::{OperandFault, StatementFault};
 use lines::Parts;
 use operands::{Text, Values};
 
-// Whether no text is among the fields.
+// Whether no text is among the fields. By itself: its clause says what the chain finds.
 fn are_plain(mut fields: Parts<'_>) -> bool
     ensures { result ≡ list_all plain (parts fields.entry.rest.now) }
 {
@@ -50,14 +50,22 @@ fn check_some(fields: Parts<'_>) -> Result<(), StatementFault>
     check_plain(fields)
 }
 
-// Fields are read one by one: the check makes no proof yet over an array of references of a const length.
+// Fields are read one by one: the check makes no proof over an array of references of a const length.
 pub(crate) fn next_field<'a>(fields: &mut Parts<'a>) -> Result<&'a [u8], StatementFault>
     ensures { under (λ f. (f.now, parts fields.new.rest.now)) result ≡ first_field (parts fields.old.rest.now) }
 {
     fields.next().ok_or(StatementFault::Malformed)
 }
 
-// Two counts: one over any iterator of answers could only speak of what its `next` gave, and not of a line's values.
+/// The only field, which is no text.
+pub(crate) fn only_field<'a>(mut fields: Parts<'a>) -> Result<&'a [u8], StatementFault>
+    ensures { under (λ f. f.now) result ≡ only_field (parts fields.entry.rest.now) }
+{
+    check_fields(fields, 1)?;
+    next_field(&mut fields)
+}
+
+// Two counts: tried as one over any iterator, but no clause ranges over types, and a line's values are not of its items' type.
 fn count_values(fields: Values<'_>) -> Result<usize, OperandFault>
     ensures { result ≡ under length (gathered (values fields.entry.rest.now)) }
 {

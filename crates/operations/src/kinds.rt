@@ -3,7 +3,7 @@ use operands::{Immediate, Text, Values};
 use words::{Function, Register, Test, ThreeRegisters, TwoRegisters};
 
 /// Operands of `addi`, `shf`, `lw` and `sw`.
-// The number is no `Imm6`: the check makes no proof yet over an enum that holds references beside a struct with a ghost field.
+// No `Imm6`: its ghost field leaves an enum that holds references unproved, and a fourth type parameter in every signature is no plainer.
 #[derive(Clone, Copy, PartialEq, Eq, Debug)]
 pub struct RegistersNumber {
     pub rd: Register,
@@ -13,6 +13,7 @@ pub struct RegistersNumber {
 }
 
 /// Operands of `lli`, `lui`, `lwi` and the branches.
+// Not `RegisterImm8`: a label has no value here.
 #[derive(Clone, Copy, PartialEq, Eq, Debug)]
 pub struct RegisterImmediate<N> {
     pub rd: Register,
@@ -20,6 +21,7 @@ pub struct RegisterImmediate<N> {
 }
 
 /// Operands of `push` and `pop`: the stack pointer, and the register stored or loaded.
+// Not `TwoRegisters`: the stack pointer is written first, and is the `rs1` of the store or load.
 #[derive(Clone, Copy, PartialEq, Eq, Debug)]
 pub struct StackRegisters {
     pub sp: Register,
@@ -28,6 +30,7 @@ pub struct StackRegisters {
 
 /// An operation with its fields. `N` is how a label is held, `V` how the values of a `.fill`, and `T` how the
 /// characters of a `.cstr`: in the line that was read, or by themselves.
+// Moved, never copied or compared.
 #[derive(Drop)]
 pub enum Operation<N, V, T> {
     Compute(Function, ThreeRegisters),

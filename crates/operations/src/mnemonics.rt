@@ -21,7 +21,7 @@ pub enum Mnemonic {
     Branch(Test),
     Br,
     Halt,
-    /// `halt` by its older name.
+    /// `halt` by its other name.
     DotHalt,
     Jmp,
     Mov,
@@ -33,6 +33,7 @@ pub enum Mnemonic {
     Def,
 }
 
+// A list and not a `match` on the text: each name stands once.
 const ALL: [Mnemonic; 31] = [
     Mnemonic::Compute(Function::Add),
     Mnemonic::Compute(Function::Sub),

@@ -8,7 +8,7 @@ ghost use Rattle.operations.specs.declared.mnemonics.Mnemonic.TheVariants.{Fill,
 ghost use Rattle.operations.specs.Kinds.{seen_operands, seen_operation, seen_sized, sized, mnemonic_of};
 ghost use Rattle.operations.specs.Reading.{registers, three_registers, two_registers, stack_registers, one_register, registers_number, register_immediate, one_immediate, one_constant, operation};
 
-use super::fields::{check_fields, next_field, take_string, take_values};
+use super::fields::{check_fields, next_field, only_field, take_string, take_values};
 use super::kinds::{LineOperation, Operation, RegisterImmediate, RegistersNumber, StackRegisters};
 use super::mnemonics::Mnemonic;
 use faults::StatementFault;
@@ -78,34 +78,6 @@ fn read_register_immediate<'a>(
     Ok(RegisterImmediate { rd, imm })
 }
 
-fn read_one_immediate<'a>(mut fields: Parts<'a>) -> Result<Immediate<&'a [u8]>, StatementFault>
-    ensures { under seen result ≡ one_immediate (parts fields.entry.rest.now) }
-{
-    check_fields(fields, 1)?;
-    Ok(read_immediate(next_field(&mut fields)?, Width::Eight)?)
-}
-
-fn read_one_constant(mut fields: Parts<'_>) -> Result<u16, StatementFault>
-    ensures { result ≡ one_constant (parts fields.entry.rest.now) }
-{
-    check_fields(fields, 1)?;
-    Ok(read_constant(next_field(&mut fields)?, Width::Sixteen)?)
-}
-
-fn read_fill<'a>(fields: Parts<'a>) -> Result<(LineOperation<'a>, usize), StatementFault>
-    ensures { under seen_sized result ≡ under sized (operation Fill (parts fields.entry.rest.now)) }
-{
-    let (values, count) = take_values(fields)?;
-    Ok((Operation::Fill(values), count))
-}
-
-fn read_cstr<'a>(fields: Parts<'a>) -> Result<(LineOperation<'a>, usize), StatementFault>
-    ensures { under seen_sized result ≡ under sized (operation Cstr (parts fields.entry.rest.now)) }
-{
-    let (text, count) = take_string(fields)?;
-    Ok((Operation::Cstr(text), count))
-}
-
 /// An operation with its fields, and the number of words that it places.
 pub fn read_operation<'a>(
     mnemonic: Mnemonic,
@@ -142,7 +114,10 @@ pub fn read_operation<'a>(
                 1,
             ))
         }
-        Mnemonic::Br => Ok((Operation::Br(read_one_immediate(fields)?), 1)),
+        Mnemonic::Br => Ok((
+            Operation::Br(read_immediate(only_field(fields)?, Width::Eight)?),
+            1,
+        )),
         Mnemonic::Halt | Mnemonic::DotHalt => {
             check_fields(fields, 0)?;
             Ok((Operation::Halt, 1))
@@ -157,9 +132,18 @@ pub fn read_operation<'a>(
         }
         Mnemonic::Push => Ok((Operation::Push(read_stack_registers(fields)?), 2)),
         Mnemonic::Pop => Ok((Operation::Pop(read_stack_registers(fields)?), 2)),
-        Mnemonic::Fill => read_fill(fields),
-        Mnemonic::Cstr => read_cstr(fields),
-        Mnemonic::Def => Ok((Operation::Def(read_one_constant(fields)?), 0)),
+        Mnemonic::Fill => {
+            let (values, count) = take_values(fields)?;
+            Ok((Operation::Fill(values), count))
+        }
+        Mnemonic::Cstr => {
+            let (text, count) = take_string(fields)?;
+            Ok((Operation::Cstr(text), count))
+        }
+        Mnemonic::Def => Ok((
+            Operation::Def(read_constant(only_field(fields)?, Width::Sixteen)?),
+            0,
+        )),
     }
 }
 

@@ -15,6 +15,7 @@ use words::{
 };
 
 /// Words by themselves, or in a part of a line.
+// No chain of the library's: its type would differ for each kind of words.
 #[derive(Clone, Copy)]
 pub(crate) enum Words<'a> {
     Nothing,
@@ -43,37 +44,37 @@ pub(crate) fn expand<'a, L: Labels>(
 ) -> Result<Words<'a>, LabelFault>
     ensures { then result (λ words. gathered (answers (L.valued site.entry.labels.now) words)) ≡ words_of (L.valued site.entry.labels.now) site.entry.address (seen_operation operation.entry) }
 {
-    match operation {
-        Operation::Compute(f, o) => Ok(Words::One(Instruction::Compute(f, o).encode())),
-        Operation::Not(o) => Ok(Words::One(Instruction::Not(o).encode())),
-        Operation::Jalr(o) => Ok(Words::One(Instruction::Jalr(o).encode())),
-        Operation::In(r) => Ok(Words::One(Instruction::In(r).encode())),
-        Operation::Out(r) => Ok(Words::One(Instruction::Out(r).encode())),
-        Operation::Addi(o) => Ok(Words::One(Instruction::Addi(with_six(o)).encode())),
-        Operation::Shf(o) => Ok(Words::One(Instruction::Shf(with_six(o)).encode())),
-        Operation::Lw(o) => Ok(Words::One(Instruction::Lw(with_six(o)).encode())),
-        Operation::Sw(o) => Ok(Words::One(Instruction::Sw(with_six(o)).encode())),
+    let instruction = match operation {
+        Operation::Compute(f, o) => Instruction::Compute(f, o),
+        Operation::Not(o) => Instruction::Not(o),
+        Operation::Jalr(o) => Instruction::Jalr(o),
+        Operation::In(r) => Instruction::In(r),
+        Operation::Out(r) => Instruction::Out(r),
+        Operation::Addi(o) => Instruction::Addi(with_six(o)),
+        Operation::Shf(o) => Instruction::Shf(with_six(o)),
+        Operation::Lw(o) => Instruction::Lw(with_six(o)),
+        Operation::Sw(o) => Instruction::Sw(with_six(o)),
         Operation::Lli(o) => {
             let imm = Imm8::from_bits(site.resolve_word(o.imm)?);
-            Ok(Words::One(Instruction::Lli(RegisterImm8 { rd: o.rd, imm }).encode()))
+            Instruction::Lli(RegisterImm8 { rd: o.rd, imm })
         }
         Operation::Lui(o) => {
             let imm = upper_of(site.resolve(o.imm)?);
-            Ok(Words::One(Instruction::Lui(RegisterImm8 { rd: o.rd, imm }).encode()))
+            Instruction::Lui(RegisterImm8 { rd: o.rd, imm })
         }
         Operation::Branch(t, o) => {
             let imm = site.resolve_distance(o.imm)?;
-            Ok(Words::One(Instruction::Branch(t, RegisterImm8 { rd: o.rd, imm }).encode()))
+            Instruction::Branch(t, RegisterImm8 { rd: o.rd, imm })
         }
         Operation::Br(target) => {
             let imm = site.resolve_distance(target)?;
             let rd = Register::R0;
-            Ok(Words::One(Instruction::Branch(Test::Equal, RegisterImm8 { rd, imm }).encode()))
+            Instruction::Branch(Test::Equal, RegisterImm8 { rd, imm })
         }
-        Operation::Halt => Ok(Words::One(Instruction::Out(Register::R0).encode())),
+        Operation::Halt => Instruction::Out(Register::R0),
         Operation::Jmp(rd) => {
             let rs1 = Register::R0;
-            Ok(Words::One(Instruction::Jalr(TwoRegisters { rd, rs1 }).encode()))
+            Instruction::Jalr(TwoRegisters { rd, rs1 })
         }
         Operation::Mov(o) => {
             let fields = ThreeRegisters {
@@ -81,7 +82,7 @@ pub(crate) fn expand<'a, L: Labels>(
                 rs1: o.rs1,
                 rs2: Register::R0,
             };
-            Ok(Words::One(Instruction::Compute(Function::Add, fields).encode()))
+            Instruction::Compute(Function::Add, fields)
         }
         Operation::Lwi(o) => {
             let word = word_of(site.resolve(o.imm)?);
@@ -93,7 +94,7 @@ pub(crate) fn expand<'a, L: Labels>(
                 rd: o.rd,
                 imm: Imm8::from_bits(word / 256),
             });
-            Ok(Words::Two(lower.encode(), upper.encode()))
+            return Ok(Words::Two(lower.encode(), upper.encode()));
         }
         Operation::Push(o) => {
             let store = Instruction::Sw(RegistersImm6 {
@@ -106,7 +107,7 @@ pub(crate) fn expand<'a, L: Labels>(
                 rs1: o.sp,
                 imm: Imm6::from_bits(63),
             });
-            Ok(Words::Two(store.encode(), lower.encode()))
+            return Ok(Words::Two(store.encode(), lower.encode()));
         }
         Operation::Pop(o) => {
             let raise = Instruction::Addi(RegistersImm6 {
@@ -119,10 +120,11 @@ pub(crate) fn expand<'a, L: Labels>(
                 rs1: o.sp,
                 imm: Imm6::from_bits(0),
             });
-            Ok(Words::Two(raise.encode(), load.encode()))
+            return Ok(Words::Two(raise.encode(), load.encode()));
         }
-        Operation::Fill(values) => Ok(Words::Each(values)),
-        Operation::Cstr(text) => Ok(Words::Characters(text)),
-        Operation::Def(_) => Ok(Words::Nothing),
-    }
+        Operation::Fill(values) => return Ok(Words::Each(values)),
+        Operation::Cstr(text) => return Ok(Words::Characters(text)),
+        Operation::Def(_) => return Ok(Words::Nothing),
+    };
+    Ok(Words::One(instruction.encode()))
 }

@@ -79,12 +79,11 @@ fn reach(imm: Immediate<u16>, address: u16) -> Result<Imm8, LabelFault>
     match imm {
         Immediate::Number(n) => Ok(Imm8::from_bits(n)),
         Immediate::Label(value) => {
-            let to = u32::from(value) + 128;
-            let from = u32::from(address) + 1;
-            if to < from || to - from > 255 {
+            let distance = i32::from(value) - i32::from(address) - 1;
+            if !(-128..=127).contains(&distance) {
                 return Err(LabelFault::TooFar);
             }
-            Ok(Imm8::from_bits(((to - from + 128) % 256) as u16))
+            Ok(Imm8::from_bits(distance.rem_euclid(256) as u16))
         }
     }
 }

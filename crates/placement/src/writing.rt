@@ -62,6 +62,7 @@ fn lay_words<L: Labels>(
     ensures answer { result ≡ (placing (gathered (answers (L.valued words.entry.site.labels.now) words.entry.words)) (length out.old)).answer }
     ensures after { OnOk result (out.new ≡ (placing (gathered (answers (L.valued words.entry.site.labels.now) words.entry.words)) (length out.old)).after) }
 {
+    // `None` once a word did not fit; the loop goes on, since a label's fault comes before `TooManyWords`.
     let mut end = Some(0);
     for word in words {
         let word = word?;
@@ -90,6 +91,7 @@ fn write_expanded<L: Labels>(
 }
 
 /// Writes the words of an operation at an address to the front of `out`, zeros behind them, and answers how many.
+// A length and not the front of `out`: lent on, `out` would not be there for `after` to speak of.
 pub fn write_words<L: Labels>(
     operation: LineOperation<'_>,
     address: u16,

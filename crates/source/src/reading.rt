@@ -65,6 +65,7 @@ fn read_begun<'a>(
 }
 
 // The statement of a line whose bytes may stand where they stand.
+// An `Option` inside, here and in `read_line`: a blank line has no statement, which is no fault.
 fn read_statement<'a>(
     line: usize,
     bytes: &'a [u8],

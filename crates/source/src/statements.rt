@@ -3,6 +3,7 @@ use operands::{Text, Values};
 use operations::Operation;
 
 /// An operation with its line, counted from 1, its label, and the number of words that it places.
+// Moved, never copied or compared.
 #[derive(Drop)]
 pub struct Statement<N, V, T> {
     pub line: usize,

@@ -1,5 +1,5 @@
 -- A decimal behind an optional sign: what the library parses, and what is read of it.
-use Rattle.std.proofs.Common.{◌≡◌, ℕ, zero, suc, ◌-◌, ◌*◌, ◌%◌, ◌^◌, ◌<◌, ◌≤◌, Bool, true, false, ◌&&◌, eqb, List, [], ◌∷◌, get_or, drop, Some, None, ℤ, pos, negsuc, neg_ℤ, nat_abs, ◌*ℤ◌, ◌-ℤ◌, ◌≤ℤ◌, ◌<ℤ◌, to_z, of_z, w16, w32, Fits, FitsSigned, ⊎_elim, sym, refl, ap, subst, ◌∙◌, arith, pow_pos, pow_mono}
+use Rattle.std.proofs.Common.{◌≡◌, ℕ, zero, suc, ◌-◌, ◌*◌, ◌%◌, ◌^◌, ◌<◌, ◌≤◌, Bool, true, false, ◌&&◌, eqb, List, [], ◌∷◌, get_or, drop, Some, None, ℤ, pos, negsuc, neg_ℤ, nat_abs, ◌*ℤ◌, ◌-ℤ◌, ◌≤ℤ◌, ◌<ℤ◌, to_z, of_z, w32, FitsSigned, ⊎_elim, sym, refl, ap, subst, ◌∙◌, arith, pow_pos, pow_mono}
 use Rattle.std.specs.Ordering.{is_le, is_lt, int_cmp}
 use Rattle.std.specs.Bool.{then_some}
 use Rattle.std.specs.Int.{int_rem_euclid}
@@ -123,18 +123,14 @@ size_is Six = refl
 size_is Eight = refl
 size_is Sixteen = refl
 
-pub rem_natural : (z d : ℤ) → int_rem_euclid z d ≡ pos (nat_abs (int_rem_euclid z d))
+rem_natural : (z d : ℤ) → int_rem_euclid z d ≡ pos (nat_abs (int_rem_euclid z d))
 rem_natural (pos a) d = refl
 rem_natural (negsuc a) d = refl
 
--- what is left by a width's size is a word
-pub word_fits : (width : Width) (z : ℤ) → Fits w16 (nat_abs (int_rem_euclid z (pos (2 ^ bits_of width))))
-word_fits Six (pos a) = omega arith
-word_fits Six (negsuc a) = omega arith
-word_fits Eight (pos a) = omega arith
-word_fits Eight (negsuc a) = omega arith
-word_fits Sixteen (pos a) = omega arith
-word_fits Sixteen (negsuc a) = omega arith
+pub by_width : (P : ℕ → Type 0) (width : Width) → P 6 → P 8 → P 16 → P (bits_of width)
+by_width P Six six eight sixteen = six
+by_width P Eight six eight sixteen = eight
+by_width P Sixteen six eight sixteen = sixteen
 
 module _ (width : Width) (text : List ℕ) where
   decimal_none : ((w : ℕ) → Signed (bits_of width) text w → ⊥) → None ≡ after_sign (bits_of width) text

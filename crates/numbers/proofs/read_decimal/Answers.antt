@@ -1,11 +1,11 @@
-use Rattle.std.proofs.Common.{rules, ◌≡◌, ◌^◌, pos, to_z, of_z, w32, FitsSigned, nat_abs, ap, ◌∙◌}
+use Rattle.std.proofs.Common.{rules, ◌≡◌, ◌^◌, pos, to_z, of_z, w16, w32, Fits, FitsSigned, nat_abs, ap, ◌∙◌, arith}
 use Rattle.std.specs.Bool.{then_some}
 use Rattle.std.specs.Int.{int_rem_euclid}
 use Rattle.std.specs.Str.{IsUtf8}
 use Rattle.std.specs.Str.Parse.{IsNumeral, without_leading_sign, signed_digits_value}
-use Rattle.std.proofs.lemmas.Int.{to_z-of_z}
+use Rattle.std.proofs.lemmas.Int.{ints, to_z-of_z}
 use Rattle.numbers.specs.Reading.{bits_of}
-use Rattle.numbers.proofs.Signed.{within, size_is, decimal_no_text, decimal_unparsed, rem_natural, word_fits, decimal_tested}
+use Rattle.numbers.proofs.Signed.{within, size_is, decimal_no_text, decimal_unparsed, by_width, decimal_tested}
 use Rattle.numbers.proofs.read_decimal.Goals as goal
 
 pub returns-in_err-ok : goal.returns-in_err-ok
@@ -21,12 +21,15 @@ returns-in_err-n c =
 
 pub overflow_cast-rem_euclid : goal.overflow_cast-rem_euclid
 overflow_cast-rem_euclid c =
-    let n = c.in_ok-n.n in
-    let fits : FitsSigned w32 n = search rules in
     let rest_fits : FitsSigned w32 c.rem_euclid.result = search rules in
-    let rest : c.rem_euclid.result ≡ int_rem_euclid n (pos (2 ^ bits_of c.args.width)) =
-    cc (c.rem_euclid.ensures.value, to_z-of_z w32 n fits, c.bits.ensures, size_is c.args.width) in
-    rw (to_z-of_z w32 c.rem_euclid.result rest_fits, rest, rem_natural n (pos (2 ^ bits_of c.args.width))) (tt, word_fits c.args.width n)
+    let upper = c.rem_euclid.ensures.upper_bound in
+    let small : Fits w16 (nat_abs c.rem_euclid.result) =
+    by_width (λ bits. c.bits.result ≡ bits → Fits w16 (nat_abs c.rem_euclid.result)) c.args.width
+    (λ e. let u = rw e at upper in omega (arith, ints, u))
+    (λ e. let u = rw e at upper in omega (arith, ints, u))
+    (λ e. let u = rw e at upper in omega (arith, ints, u))
+    c.bits.ensures in
+    rw (to_z-of_z w32 c.rem_euclid.result rest_fits) (c.rem_euclid.ensures.lower_bound, small)
 
 pub returns : goal.returns
 returns c =

@@ -46,7 +46,7 @@ fn write_words(words: &[u16], bytes: &mut [u8])
     }
 }
 
-// Reads the word of each two bytes, by its place for the same reason.
+// Reads the word of each two bytes, by its place: nothing is known of what an adapter of `iter_mut` has written.
 fn read_words(pairs: &[[u8; 2]], words: &mut [u16])
     requires { length pairs.now ≡ length words.old }
     ensures { words.new ≡ map word_of pairs.now }
@@ -57,6 +57,7 @@ fn read_words(pairs: &[[u8; 2]], words: &mut [u16])
 }
 
 /// Writes the image's file to the front of `out`, zeros behind it, and answers the file's length.
+// A length: the front itself would keep `out` lent, of which `after` speaks.
 pub fn write_image(image: &[u16], out: &mut [u8]) -> Result<usize, Refusal>
     ensures answer { result ≡ (writing image.now (length out.old)).answer }
     ensures after { out.new ≡ (writing image.now (length out.old)).after }
@@ -77,6 +78,7 @@ pub fn write_image(image: &[u16], out: &mut [u8]) -> Result<usize, Refusal>
 }
 
 /// Reads a file's words to the front of `image`, zeros behind them, and answers how many they are.
+// A length: the front itself would keep `image` lent, of which `after` speaks.
 pub fn read_image(bytes: &[u8], image: &mut [u16]) -> Result<usize, Refusal>
     ensures answer { result ≡ (reading bytes.now (length image.old)).answer }
     ensures after { image.new ≡ (reading bytes.now (length image.old)).after }

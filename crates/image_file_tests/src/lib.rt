@@ -81,6 +81,7 @@ mod tests {
     }
 
     // A file, read over a buffer's first words, which are all ones before.
+    // By itself beside `write`: the calls differ in both types.
     fn read(file: &[u8], buffer: &mut [u16], words: usize) -> Result<usize, u8> {
         buffer.fill(0xffff);
         let end = buffer.len().min(words);
@@ -103,6 +104,7 @@ mod tests {
         outcome == told.map(|list| list.len()) && padded(buffer, told.unwrap_or(&[]))
     }
 
+    // By itself beside `writes`: the rows and the buffers differ in their types.
     fn reads(row: &Reading) -> bool {
         let mut buffer = [0; 4];
         let outcome = read(row.0, &mut buffer, row.1);

@@ -14,7 +14,7 @@ ghost use Rattle.lines.specs.Cuts.{place_laws};
 use pieces::{Gaps, Pieces, is_white};
 
 /// Where a byte of a line stands.
-#[derive(Clone, Copy)]
+#[derive(Clone, Copy, PartialEq, Eq, Debug)]
 pub enum Place {
     Outside,
     /// In a string.
@@ -29,8 +29,8 @@ impl Place {
         ensures { result ≡ allows self b }
     {
         match self {
-            Place::Outside => is_white(b) || (b >= 0x21 && b <= 0x7E),
-            Place::Text | Place::Escape => b >= 0x20 && b <= 0x7E,
+            Place::Outside => is_white(b) || b.is_ascii_graphic(),
+            Place::Text | Place::Escape => matches!(b, b' '..=b'~'),
             Place::Comment => true,
         }
     }
@@ -74,6 +74,7 @@ impl Gaps for Place {
 pub fn is_allowed(line: &[u8]) -> bool
     ensures { result ≡ allowed line.now }
 {
+    // Not `all`: its closure would have to change the place, which is no plainer.
     let mut place = Place::Outside;
     for b in line {
         if !place.allows(*b) {
@@ -84,6 +85,7 @@ pub fn is_allowed(line: &[u8]) -> bool
     true
 }
 
+// By itself, for its clause: behind a later call nothing is known of what `position` found.
 fn find_line_end(source: &[u8]) -> Option<usize>
     ensures { result ≡ position (λ c. nat_eq c 10) source.now }
 {
@@ -91,6 +93,7 @@ fn find_line_end(source: &[u8]) -> Option<usize>
 }
 
 /// The first line of a source, without its end, and the source behind it.
+// Apart from `next`, where a clause beside the trait's breaks the proof of each loop.
 pub fn first_line(source: &[u8]) -> Option<(&[u8], &[u8])>
     ensures { Cut lines source.now result }
 {
@@ -103,7 +106,8 @@ pub fn first_line(source: &[u8]) -> Option<(&[u8], &[u8])>
 }
 
 /// The lines of what is left of a source, first to last.
-#[derive(Drop)]
+// Not `Pieces`: a line may be empty, and a piece is not.
+#[derive(Clone, Copy)]
 pub struct Lines<'a> {
     pub rest: &'a [u8],
 }

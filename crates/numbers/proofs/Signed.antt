@@ -1,10 +1,11 @@
 -- A decimal behind an optional sign: what the library parses, and what is read of it.
-use Rattle.std.proofs.Common.{◌≡◌, ℕ, zero, suc, ◌-◌, ◌*◌, ◌%◌, ◌^◌, ◌<◌, ◌≤◌, Bool, true, false, ◌&&◌, eqb, List, [], ◌∷◌, get_or, drop, Some, None, ℤ, pos, negsuc, neg_ℤ, nat_abs, ◌*ℤ◌, ◌-ℤ◌, ◌≤ℤ◌, ◌<ℤ◌, to_z, of_z, w32, FitsSigned, sym, refl, ap, subst, ◌∙◌, arith, pow_pos, pow_mono}
+use Rattle.std.proofs.Common.{◌≡◌, ℕ, zero, suc, ◌-◌, ◌*◌, ◌%◌, ◌^◌, ◌<◌, ◌≤◌, Bool, true, false, ◌&&◌, eqb, List, [], ◌∷◌, get_or, drop, Some, None, ℤ, pos, negsuc, neg_ℤ, nat_abs, ◌*ℤ◌, ◌-ℤ◌, ◌≤ℤ◌, ◌<ℤ◌, to_z, of_z, w32, FitsSigned, ⊎_elim, sym, refl, ap, subst, ◌∙◌, arith, pow_pos, pow_mono}
 use Rattle.std.specs.Ordering.{is_le, is_lt, int_cmp}
+use Rattle.std.specs.Bool.{then_some}
 use Rattle.std.specs.Int.{int_rem_euclid}
 use Rattle.std.specs.Str.{IsAscii, IsUtf8}
 use Rattle.std.specs.Str.Parse.{AllDigits, IsNumeral, digits_value, without_leading_sign, signed_digits_value}
-use Rattle.std.proofs.lemmas.Bool.{cond_both, eqb-true, and_parts}
+use Rattle.std.proofs.lemmas.Bool.{cases_Bool, cond_both, eqb-true, and_parts}
 use Rattle.std.proofs.lemmas.Str.{IsUtf8-from_ascii}
 use Rattle.std.proofs.lemmas.Int.{ints, int_rem_euclid_is, fits_signed_from_abs}
 use Rattle.std.proofs.Math.Nat.{mod-eq_of_lt}
@@ -126,6 +127,11 @@ rem_natural : (z d : ℤ) → int_rem_euclid z d ≡ pos (nat_abs (int_rem_eucli
 rem_natural (pos a) d = refl
 rem_natural (negsuc a) d = refl
 
+pub by_width : (P : ℕ → Type 0) (width : Width) → P 6 → P 8 → P 16 → P (bits_of width)
+by_width P Six six eight sixteen = six
+by_width P Eight six eight sixteen = eight
+by_width P Sixteen six eight sixteen = sixteen
+
 module _ (width : Width) (text : List ℕ) where
   decimal_none : ((w : ℕ) → Signed (bits_of width) text w → ⊥) → None ≡ after_sign (bits_of width) text
   decimal_none h = none_when (after_sign (bits_of width) text) (λ w e. h w (decimal_only (bits_of width) text w e))
@@ -143,12 +149,20 @@ module _ (width : Width) (text : List ℕ) where
 
   -- a number that is parsed, and the test of its range
   module _ (n : ℤ) (is : n ≡ signed_digits_value 10 text) where
-    pub decimal_outside : within (bits_of width) n ≡ false → None ≡ after_sign (bits_of width) text
+    decimal_outside : within (bits_of width) n ≡ false → None ≡ after_sign (bits_of width) text
     decimal_outside e = decimal_none (λ w d. let t = within_from width (signed_digits_value 10 text) d.low d.high in (let f = subst (λ z. within (bits_of width) z ≡ false) is e in cc))
 
-    pub decimal_inside : IsNumeral 10 (without_leading_sign text) → within (bits_of width) n ≡ true
+    decimal_inside : IsNumeral 10 (without_leading_sign text) → within (bits_of width) n ≡ true
         → Some (nat_abs (int_rem_euclid n (pos (2 ^ bits_of width)))) ≡ after_sign (bits_of width) text
     decimal_inside numeral e =
         let range = within_true width n e in
         let rest = int_rem_euclid n (pos (2 ^ bits_of width)) in
         sym (decimal_told (bits_of width) text (nat_abs rest) (record { numeral = numeral; low = subst (λ z. neg_ℤ (pos (2 ^ (bits_of width - 1))) ≤ℤ z) is range.0; high = subst (λ z. z <ℤ pos (2 ^ (bits_of width - 1))) is range.1; word_is = subst (λ z. int_rem_euclid z (pos (2 ^ bits_of width)) ≡ pos (nat_abs rest)) is (rem_natural n (pos (2 ^ bits_of width))) }))
+
+    pub decimal_tested : IsNumeral 10 (without_leading_sign text)
+        → then_some (within (bits_of width) n) (nat_abs (int_rem_euclid n (pos (2 ^ bits_of width)))) ≡ after_sign (bits_of width) text
+    decimal_tested numeral =
+        ⊎_elim
+        (λ e. rw e (decimal_inside numeral e))
+        (λ e. rw e (decimal_outside e))
+        (cases_Bool (within (bits_of width) n))

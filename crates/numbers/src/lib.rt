@@ -29,7 +29,8 @@ impl Width {
 
 // A bit pattern, in at most so many digits.
 fn read_pattern(digits: &[u8], base: u32, most: u32, width: Width) -> Option<u16>
-    requires { (2 ≤ base) × (base ≤ 36) }
+    requires least { 2 ≤ base }
+    requires greatest { base ≤ 36 }
     ensures { result ≡ pattern (bits_of width) base most digits.now }
 {
     // `from_str_radix` would take a plus sign.
@@ -46,11 +47,9 @@ fn read_decimal(text: &[u8], width: Width) -> Option<u16>
 {
     let n: i32 = str::from_utf8(text).ok()?.parse().ok()?;
     let half = 1 << (width.bits() - 1);
-    if (-half..half).contains(&n) {
-        Some(n.rem_euclid(2 * half) as u16)
-    } else {
-        None
-    }
+    (-half..half)
+        .contains(&n)
+        .then_some(n.rem_euclid(2 * half) as u16)
 }
 
 /// The word of a number's text: hexadecimal behind `0x`, binary behind `0b`, else decimal with an optional sign.

@@ -46,6 +46,7 @@ fn split_run<P: Gaps>(text: &[u8], gaps: bool) -> (&[u8], &[u8])
     ensures each { Each P.next P.is_gap gaps P.start result.0.now }
     ensures stops { StopsAt P.is_gap gaps (behind P.next P.start result.0.now) result.1.now }
 {
+    // Not `position`: its closure would have to change the state, which is no plainer.
     let mut state = P::start();
     for (i, b) in text.iter().enumerate() {
         if state.is_gap(*b) != gaps {
@@ -57,6 +58,7 @@ fn split_run<P: Gaps>(text: &[u8], gaps: bool) -> (&[u8], &[u8])
 }
 
 /// The first piece of a text, and the text behind it.
+// Apart from `next`, where a clause beside the trait's breaks the proof of each loop.
 pub fn first_piece<P: Gaps>(text: &[u8]) -> Option<(&[u8], &[u8])>
     ensures { Cut (pieces P.next P.is_gap P.start) text.now result }
 {
@@ -71,7 +73,7 @@ pub fn first_piece<P: Gaps>(text: &[u8]) -> Option<(&[u8], &[u8])>
 #[derive(Clone, Copy)]
 pub struct Pieces<'a, P> {
     pub rest: &'a [u8],
-    told_by: PhantomData<P>,
+    marker: PhantomData<P>,
 }
 
 impl<'a, P: Gaps> Pieces<'a, P> {
@@ -81,7 +83,7 @@ impl<'a, P: Gaps> Pieces<'a, P> {
     {
         Pieces {
             rest: text,
-            told_by: PhantomData,
+            marker: PhantomData,
         }
     }
 }

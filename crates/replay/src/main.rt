@@ -53,12 +53,6 @@ fn run_image<P: Port>(image: &[u16], port: &mut P) -> Result<Report, Refusal> {
     run_file(&file[..length], port)
 }
 
-// Runs the door program over a port of the recorded text, if it is one.
-fn run_door<P: Port>(text: &[u8], port: &mut P) -> Result<Report, Refusal> {
-    check_text(text)?;
-    run_image(&DOOR, port)
-}
-
 // A line of 64 bytes holds each refusal.
 fn show_refusal(rt: &HostRuntime, refusal: Refusal) -> io::Result<()> {
     let mut line = [0; 64];
@@ -95,9 +89,11 @@ fn show_words(
     show(rt, title, lines.as_bytes(), outcome)
 }
 
+// The door program runs only where the recorded text is accepted.
 fn replay_door(rt: &HostRuntime, text: &[u8], lines: &mut [u8]) -> io::Result<()> {
+    let checked = check_text(text).map_err(Refusal::Text);
     let mut port = TextPort::new(text, lines);
-    let outcome = run_door(text, &mut port);
+    let outcome = checked.and_then(|()| run_image(&DOOR, &mut port));
     show(
         rt,
         "door switches from the recorded text",
@@ -105,7 +101,7 @@ fn replay_door(rt: &HostRuntime, text: &[u8], lines: &mut [u8]) -> io::Result<()
         outcome,
     )?;
     let mut port = Polarity::new(TextPort::new(text, lines), 0xFFFF);
-    let outcome = run_door(text, &mut port);
+    let outcome = checked.and_then(|()| run_image(&DOOR, &mut port));
     show(
         rt,
         "the same under polarity",

@@ -22,6 +22,7 @@ pub enum Refusal {
     Text(text_port::Refusal),
 }
 
+// By hand: by `from_gives` a clause knows which variant `?` makes.
 impl From<machine::Refusal> for Refusal {
     ghost from_gives = { λ e r. r ≡ by_machine e };
 
@@ -60,6 +61,7 @@ impl Refusal {
 }
 
 // Appends the usual digits of a number.
+// `loan`, as at each that takes a `&mut Page`: another buffer could be put in its place.
 fn append_decimal(n: u64, page: &mut Page<'_>) -> Result<(), Short>
     ensures loan { loan_of page.new ≡ loan_of page.old }
     ensures added { Added (decimal n) (held page.old) result (held page.new) }
@@ -96,6 +98,7 @@ fn append_refusal(refusal: Refusal, page: &mut Page<'_>) -> Result<(), Short>
 }
 
 /// Writes the line of a refusal to the front of `out`, zeros behind it, and answers its length.
+// A length: the front itself would keep `out` lent, of which `after` speaks.
 pub fn write_refusal(refusal: Refusal, out: &mut [u8]) -> Result<usize, Short>
     ensures answer { result ≡ (printing (refusal_line refusal) (length out.old)).answer }
     ensures after { out.new ≡ (printing (refusal_line refusal) (length out.old)).after }
@@ -103,9 +106,9 @@ pub fn write_refusal(refusal: Refusal, out: &mut [u8]) -> Result<usize, Short>
 {
     out.fill(0);
     let mut page = Page::new(out);
-    if append_refusal(refusal, &mut page).is_err() {
+    if let Err(short) = append_refusal(refusal, &mut page) {
         out.fill(0);
-        return Err(Short);
+        return Err(short);
     }
     Ok(page.text().len())
 }

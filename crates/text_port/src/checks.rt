@@ -6,6 +6,8 @@ ghost use Rattle.text_port.specs.Holding.{accepted};
 
 use crate::tokens::{Tokens, read_word};
 
+const MOST_BYTES: usize = 65_536;
+
 /// Why a text is refused.
 #[derive(Clone, Copy, PartialEq, Eq, Debug)]
 pub enum Refusal {
@@ -17,6 +19,7 @@ pub enum Refusal {
 
 impl Refusal {
     /// The refusal's number.
+    // Not by discriminants: a variant holds a value.
     pub fn number(self) -> u8
         ensures { result ≡ number_of self }
     {
@@ -42,7 +45,7 @@ pub fn check_text(text: &[u8]) -> Result<(), Refusal>
     ensures value { result ≡ checking text.now }
     ensures cause { Caused text.now result }
 {
-    if text.len() > 65_536 {
+    if text.len() > MOST_BYTES {
         return Err(Refusal::Length);
     }
     check_tokens(text)

@@ -16,6 +16,7 @@ fn line_of(word: u16) -> [u8; 5]
 }
 
 /// A text to read, and a buffer for the lines of the words sent.
+// Not a `Page`: free places are lines of five bytes, and a page tells bytes.
 #[derive(Drop)]
 pub struct TextPort<'i, 'o> {
     tokens: Tokens<'i>,

@@ -3,7 +3,7 @@
 
 #[cfg(test)]
 mod tests {
-    use port::{Polarity, Port};
+    use port::{Dry, Full, Polarity, Port};
     use std::process::Abort;
     use std::test::Fail;
     use text_port::{Refusal, TextPort, check_text};
@@ -13,9 +13,9 @@ mod tests {
         let mut port = TextPort::new(text, &mut []);
         assert_eq!(rt; port.count_waiting(), words.len());
         for word in words {
-            assert_eq!(rt; port.take().ok(), Some(*word));
+            assert_eq!(rt; port.take(), Ok(*word));
         }
-        assert_eq!(rt; port.take().ok(), None);
+        assert_eq!(rt; port.take(), Err(Dry));
     }
 
     // The text is accepted, and gives these words and no more.
@@ -68,9 +68,9 @@ mod tests {
         let mut port = TextPort::new(b"", buffer);
         assert_eq!(rt; port.count_free(), free);
         for _ in 0..free {
-            assert!(rt; port.send(0xabcd).is_ok());
+            assert_eq!(rt; port.send(0xabcd), Ok(()));
         }
-        assert!(rt; port.send(1).is_err());
+        assert_eq!(rt; port.send(1), Err(Full));
         assert_eq!(rt; port.count_free(), 0);
         assert!(rt; port.written() == written);
     }
@@ -88,10 +88,10 @@ mod tests {
     fn lines_are_written_and_the_rest_stays(rt: HostRuntime) {
         let mut out = *b".............";
         let mut port = TextPort::new(b"9 8", &mut out);
-        assert!(rt; port.send(3).is_ok());
-        assert_eq!(rt; port.take().ok(), Some(9));
-        assert!(rt; port.send(0xabcd).is_ok());
-        assert!(rt; port.send(5).is_err());
+        assert_eq!(rt; port.send(3), Ok(()));
+        assert_eq!(rt; port.take(), Ok(9));
+        assert_eq!(rt; port.send(0xabcd), Ok(()));
+        assert_eq!(rt; port.send(5), Err(Full));
         assert_eq!(rt; port.count_waiting(), 1);
         assert!(rt; port.written() == b"0003\nabcd\n".as_slice());
         assert!(rt; out == *b"0003\nabcd\n...");
@@ -102,8 +102,8 @@ mod tests {
     fn polarity_stands_over_a_text(rt: HostRuntime) {
         let mut out = [0; 5];
         let mut port = Polarity::new(TextPort::new(b"0x00ff", &mut out), 0x0f0f);
-        assert_eq!(rt; port.take().ok(), Some(0x0ff0));
-        assert!(rt; port.send(0x00ff).is_ok());
+        assert_eq!(rt; port.take(), Ok(0x0ff0));
+        assert_eq!(rt; port.send(0x00ff), Ok(()));
         assert!(rt; port.below().written() == b"00ff\n".as_slice());
     }
 }

@@ -1,5 +1,5 @@
 use Rattle.std.proofs.Common.{◌≡◌, ◌+◌, ◌-◌, sym, ◌∙◌, arith}
-use Rattle.std.proofs.lemmas.List.{take_all, length-drop, length-set}
+use Rattle.std.proofs.lemmas.List.{length-set}
 use Rattle.numbers.proofs.Places.{fewer, last_place, one_place}
 use Rattle.numbers.proofs.decimals.write_decimal.Goals as goal
 

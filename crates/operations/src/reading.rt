@@ -3,10 +3,8 @@ ghost use Rattle.std.specs.Prelude.{◌≡◌};
 ghost use Rattle.numbers.specs.Reading.{bits_of};
 ghost use Rattle.lines.specs.Places.{parts};
 ghost use Rattle.faults.specs.Chains.{under};
-ghost use Rattle.operands.specs.Operands.{seen};
-ghost use Rattle.operations.specs.declared.mnemonics.Mnemonic.TheVariants.{Fill, Cstr};
 ghost use Rattle.operations.specs.Kinds.{seen_operands, seen_operation, seen_sized, sized, mnemonic_of};
-ghost use Rattle.operations.specs.Reading.{registers, three_registers, two_registers, stack_registers, one_register, registers_number, register_immediate, one_immediate, one_constant, operation};
+ghost use Rattle.operations.specs.Reading.{registers, three_registers, two_registers, stack_registers, one_register, registers_number, register_immediate, operation};
 
 use super::fields::{check_fields, next_field, only_field, take_string, take_values};
 use super::kinds::{LineOperation, Operation, RegisterImmediate, RegistersNumber, StackRegisters};
@@ -14,7 +12,7 @@ use super::mnemonics::Mnemonic;
 use faults::StatementFault;
 use lines::Parts;
 use numbers::Width;
-use operands::{Immediate, read_constant, read_immediate, read_register};
+use operands::{read_constant, read_immediate, read_register};
 use words::{Register, ThreeRegisters, TwoRegisters};
 
 fn read_registers<const N: usize>(mut fields: Parts<'_>) -> Result<[Register; N], StatementFault>

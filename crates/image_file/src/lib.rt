@@ -10,7 +10,7 @@ ghost use Rattle.image_file.specs.Refusals.{refusal_number};
 // The mark, and the version 1.
 const HEAD: [u8; 5] = [b'A', b'P', b'C', 0, 1];
 
-const MOST_WORDS: usize = 65_536;
+const MAX_WORDS: usize = 65_536;
 
 /// Why a file was not written or not read. Each refusal leaves the buffer all zero.
 #[derive(Clone, Copy, PartialEq, Eq, Debug)]
@@ -65,7 +65,7 @@ pub fn write_image(image: &[u16], out: &mut [u8]) -> Result<usize, Refusal>
     ensures reads_back { IfOk result (λ n. ReadsBack (take n out.new) image.now) }
 {
     out.fill(0);
-    if image.len() > MOST_WORDS {
+    if image.len() > MAX_WORDS {
         return Err(Refusal::Image);
     }
     let end = HEAD.len() + 2 * image.len();
@@ -92,7 +92,7 @@ pub fn read_image(bytes: &[u8], image: &mut [u16]) -> Result<usize, Refusal>
         return Err(Refusal::Mark);
     }
     let count = pairs.len();
-    if count > image.len() || count > MOST_WORDS {
+    if count > image.len() || count > MAX_WORDS {
         return Err(Refusal::Words);
     }
     read_words(pairs, &mut image[..count]);

@@ -13,7 +13,7 @@ use lines::{Lines, Parts, is_allowed};
 use operands::is_name;
 use operations::{Mnemonic, find_mnemonic, read_operation};
 
-const MOST_BYTES: usize = 65_536;
+const MAX_BYTES: usize = 65_536;
 
 // An operation by its name, with its fields, under a label or none.
 fn read_operated<'a>(
@@ -110,7 +110,7 @@ fn count_statements(source: &[u8]) -> Result<usize, AssemblyFault>
 pub fn check_source(source: &[u8]) -> Result<usize, AssemblyFault>
     ensures { result ≡ under length (statements source.now) }
 {
-    if source.len() > MOST_BYTES {
+    if source.len() > MAX_BYTES {
         return Err(AssemblyFault::TooLong);
     }
     count_statements(source)

@@ -6,7 +6,7 @@ ghost use Rattle.text_port.specs.Holding.{accepted};
 
 use crate::tokens::{Tokens, read_word};
 
-const MOST_BYTES: usize = 65_536;
+const MAX_BYTES: usize = 65_536;
 
 /// Why a text is refused.
 #[derive(Clone, Copy, PartialEq, Eq, Debug)]
@@ -45,7 +45,7 @@ pub fn check_text(text: &[u8]) -> Result<(), Refusal>
     ensures value { result ≡ checking text.now }
     ensures cause { Caused text.now result }
 {
-    if text.len() > MOST_BYTES {
+    if text.len() > MAX_BYTES {
         return Err(Refusal::Length);
     }
     check_tokens(text)

@@ -41,5 +41,5 @@ returns c =
     c.read_words.ensures ∙ ap (map word_of) c.as_chunks.ensures.front ∙ rw behind (sym (words_of_pairs rest)) in
     let filled : c.read_words.new.words ++ drop count c.fill.new.self ≡ padded (words_of rest) n =
     rw (words, zeros) (padded_over (words_of rest) n count (omega (arith, half, length_words_of rest))) in
-    let shown = accepted_reading bytes rest n count headed even half _ (All-drop (λ b. b < 256) 5 bytes small) (omega arith) c.if-count-gt-MOST_WORDS.false filled in
+    let shown = accepted_reading bytes rest n count headed even half _ (All-drop (λ b. b < 256) 5 bytes small) (omega arith) c.if-count-gt-MAX_WORDS.false filled in
     record { answer = shown.0; after = shown.1; within = omega arith; written_by = shown.2 }

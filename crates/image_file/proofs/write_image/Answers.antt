@@ -25,5 +25,5 @@ returns c =
     ap (λ buffer. put_mid 5 (end - 5) buffer c.write_words.new.bytes) headed
     ∙ overlaid_from_copy 5 (end - 5) (padded head n) _ (bytes_of image) c.write_words.ensures (omega (arith, length_bytes_of image))
     ∙ overlaid_padded head (bytes_of image) n in
-    let shown = accepted_writing image n end _ c.if-image-gt-MOST_WORDS.false (omega arith) (omega arith) filled in
+    let shown = accepted_writing image n end _ c.if-image-gt-MAX_WORDS.false (omega arith) (omega arith) filled in
     record { answer = shown.0; after = shown.1; within = omega arith; reads_back = shown.2 }

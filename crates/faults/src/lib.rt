@@ -118,7 +118,7 @@ impl AssemblyFault {
     }
 
     /// The line, counted from 1; 0 where the whole source is refused.
-    // A number and not an `Option`: 0 is the line printed where the whole source is refused.
+    // A number and not an `Option`: each fault has a number, a line and a layer, and the line of a whole source is 0.
     pub fn line(self) -> usize
         ensures { result ≡ (told self).line }
     {

@@ -81,7 +81,7 @@ mod tests {
     }
 
     // A file, read over a buffer's first words, which are all ones before.
-    // By itself beside `write`: the calls differ in both types.
+    // By itself beside `write`: the calls differ in both types. A row tells how much of the buffer is lent, and here it is cut once.
     fn read(file: &[u8], buffer: &mut [u16], words: usize) -> Result<usize, u8> {
         buffer.fill(0xffff);
         let end = buffer.len().min(words);

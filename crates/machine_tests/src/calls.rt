@@ -21,6 +21,7 @@ enum Call {
 }
 
 // The call, and what it answers: its stop or 0, and its cycles or word; or its refusal.
+// By their printed numbers, so that `number` is tested too.
 struct Step(Call, Result<(u8, u32), u8>);
 
 static STEPS: [Step; 127] = [

@@ -15,7 +15,7 @@ use words::{
 };
 
 /// Words by themselves, or in a part of a line.
-// No chain of the library's: its type would differ for each kind of words.
+// No chain of the library's: its type would differ for each kind of words. Never compared.
 #[derive(Clone, Copy)]
 pub(crate) enum Words<'a> {
     Nothing,

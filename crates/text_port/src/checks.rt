@@ -52,6 +52,7 @@ pub fn check_text(text: &[u8]) -> Result<(), Refusal>
 }
 
 // The tokens of an accepted text, and none of a refused one.
+// A `match`: by `map_or` the tokens of no text would stand first, which is no plainer.
 pub(crate) fn accepted_tokens(text: &[u8]) -> Tokens<'_>
     ensures { tokens result.rest.now ≡ accepted text.now }
 {

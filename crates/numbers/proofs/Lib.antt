@@ -1,6 +1,5 @@
+pub mod Capped
 pub mod Values
-pub mod Parsed
-pub mod Signed
 pub mod Told
 pub mod Spelled
 pub mod Places

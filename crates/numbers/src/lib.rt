@@ -1,9 +1,10 @@
 // Numbers as text: read at a width of 6, 8 or 16 bits, and a word written as four hexadecimal digits.
 #![tactic(auto)]
 
-ghost use Rattle.std.specs.Prelude.{◌≡◌, ◌≤◌};
+ghost use Rattle.std.specs.Prelude.{◌≡◌, ◌≤◌, min};
+ghost use Rattle.std.specs.Option.{option_map};
 ghost use Rattle.numbers.specs.Texts.{ReadsTexts, HasTexts};
-ghost use Rattle.numbers.specs.Reading.{bits_of, pattern, after_sign, reading};
+ghost use Rattle.numbers.specs.Reading.{bits_of, digits_from, pattern, positive, negative, after_sign, reading};
 
 mod decimals;
 mod hex;
@@ -21,10 +22,27 @@ pub enum Width {
 
 impl Width {
     fn bits(self) -> u32
-        ensures { result ≡ bits_of self }
+        ensures value { result ≡ bits_of self }
+        ensures least { 1 ≤ result }
+        ensures greatest { result ≤ 16 }
     {
         self as u32
     }
+}
+
+// The number that the digits write, 65,536 standing for all above it; none where a byte is no digit of the base.
+// Not `from_str_radix` or `parse`: they take a `str`, so that each byte would be read twice, and those behind a wrong one too.
+fn read_digits(digits: &[u8], base: u32) -> Option<u32>
+    requires least { 2 ≤ base }
+    requires greatest { base ≤ 36 }
+    ensures { result ≡ option_map (λ n. min n 65536) (digits_from base 0 digits.now) }
+{
+    let mut n: u32 = 0;
+    for b in digits {
+        let digit = char::from(*b).to_digit(base)?;
+        n = (n * base + digit).min(65_536);
+    }
+    Some(n)
 }
 
 // A bit pattern, in at most so many digits.
@@ -33,23 +51,52 @@ fn read_pattern(digits: &[u8], base: u32, most: u32, width: Width) -> Option<u16
     requires greatest { base ≤ 36 }
     ensures { result ≡ pattern (bits_of width) base most digits.now }
 {
-    // `from_str_radix` would take a plus sign.
-    if digits.len() > most as usize || digits.starts_with(b"+") {
+    if digits.is_empty() || digits.len() > most as usize {
         return None;
     }
-    let word = u16::from_str_radix(str::from_utf8(digits).ok()?, base).ok()?;
-    (u32::from(word) < 1 << width.bits()).then_some(word)
+    let bits = width.bits();
+    match read_digits(digits, base) {
+        Some(n) if n < 1 << bits => Some(n as u16),
+        _ => None,
+    }
+}
+
+fn read_positive(digits: &[u8], width: Width) -> Option<u16>
+    ensures { result ≡ positive (bits_of width) digits.now }
+{
+    if digits.is_empty() {
+        return None;
+    }
+    let bits = width.bits();
+    match read_digits(digits, 10) {
+        Some(n) if n < 1 << (bits - 1) => Some(n as u16),
+        _ => None,
+    }
+}
+
+// The digits behind a minus sign.
+fn read_negative(digits: &[u8], width: Width) -> Option<u16>
+    ensures { result ≡ negative (bits_of width) digits.now }
+{
+    if digits.is_empty() {
+        return None;
+    }
+    let bits = width.bits();
+    match read_digits(digits, 10) {
+        Some(n) if n <= 1 << (bits - 1) => Some((((1 << bits) - n) % (1 << bits)) as u16),
+        _ => None,
+    }
 }
 
 // A decimal number behind an optional sign, as its two's complement.
 fn read_decimal(text: &[u8], width: Width) -> Option<u16>
     ensures { result ≡ after_sign (bits_of width) text.now }
 {
-    let n: i32 = str::from_utf8(text).ok()?.parse().ok()?;
-    let half = 1 << (width.bits() - 1);
-    (-half..half)
-        .contains(&n)
-        .then_some(n.rem_euclid(2 * half) as u16)
+    match text {
+        [b'-', digits @ ..] => read_negative(digits, width),
+        [b'+', digits @ ..] => read_positive(digits, width),
+        _ => read_positive(text, width),
+    }
 }
 
 /// The word of a number's text: hexadecimal behind `0x`, binary behind `0b`, else decimal with an optional sign.

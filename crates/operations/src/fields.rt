@@ -31,22 +31,30 @@ fn check_plain(fields: Parts<'_>) -> Result<(), StatementFault>
 }
 
 /// Whether there are so many fields and no more, and no text among them.
+// One loop and not `count` before `check_plain`: it reads each field once, and none behind the first that is too many.
 pub(crate) fn check_fields(fields: Parts<'_>, count: usize) -> Result<(), StatementFault>
     ensures { result ≡ exactly count (parts fields.entry.rest.now) }
 {
-    if fields.count() != count {
-        return Err(StatementFault::Malformed);
+    let mut left = count;
+    for field in fields {
+        if left == 0 || field.contains(&b'"') {
+            return Err(StatementFault::Malformed);
+        }
+        left -= 1;
     }
-    check_plain(fields)
+    if left == 0 {
+        Ok(())
+    } else {
+        Err(StatementFault::Malformed)
+    }
 }
 
 // Whether there is a field or more, and no text among them.
 fn check_some(fields: Parts<'_>) -> Result<(), StatementFault>
     ensures { result ≡ some_fields (parts fields.entry.rest.now) }
 {
-    if fields.count() == 0 {
-        return Err(StatementFault::Malformed);
-    }
+    let mut first = fields;
+    next_field(&mut first)?;
     check_plain(fields)
 }
 

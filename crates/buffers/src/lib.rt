@@ -4,6 +4,10 @@
 ghost use Rattle.std.specs.Prelude.{◌≡◌, ◌≤◌, length};
 ghost use Rattle.buffers.specs.Refusals.{short_number};
 
+mod places;
+
+pub use places::append;
+
 /// The buffer has no room for the text.
 #[derive(Clone, Copy, PartialEq, Eq, Debug)]
 pub struct Short;
@@ -59,12 +63,7 @@ impl<'a> Page<'a> {
         ensures answer { result ≡ (appending text.now (held self.old)).answer }
         ensures after { held self.new ≡ (appending text.now (held self.old)).after }
     {
-        if text.len() > self.buffer.len() - self.len {
-            return Err(Short);
-        }
-        let end = self.len + text.len();
-        self.buffer[self.len..end].copy_from_slice(text);
-        self.len = end;
+        self.len = append(text, self.len, self.buffer).ok_or(Short)?;
         Ok(())
     }
 }

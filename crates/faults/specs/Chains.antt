@@ -27,6 +27,12 @@ First told seen before (Ok None) = told before ≡ []
 First told seen before (Ok (Some (x, rest))) = (told before ≡ Ok (seen x) ∷ told rest.now) × (length rest.now < length before)
 First told seen before (Err e) = take 1 (told before) ≡ Err e ∷ []
 
+-- what removing the first of the answers leaves: nothing was left, the first value is removed, or a fault stands first and all stays
+abbrev pub Removed : {X Y E : Type 0} → (List ℕ → List (Result Y E)) → (X → Y) → Result (Option X) E → List ℕ → List ℕ → Type 0
+Removed told seen (Ok None) before after = (told before ≡ []) × (after ≡ before)
+Removed told seen (Ok (Some x)) before after = (told before ≡ Ok (seen x) ∷ told after) × (length after < length before)
+Removed told seen (Err e) before after = (take 1 (told before) ≡ Err e ∷ []) × (after ≡ before)
+
 -- what an iterator over answers removes: nothing is left, the first value is removed, or a fault stands first and behind it nothing is left
 abbrev pub Next : {X Y E : Type 0} → (List ℕ → List (Result Y E)) → (X → Y) → Option (Result X E) → List ℕ → List ℕ → Type 0
 Next told seen None before after = (told before ≡ []) × (after ≡ before)

@@ -4,7 +4,7 @@
 ghost use Rattle.std.specs.Prelude.{◌≡◌, length, nat_eq};
 ghost use Rattle.std.specs.Iterator.{YieldsFirstRef, at_most};
 ghost use Rattle.std.specs.List.{position};
-ghost use Rattle.pieces.specs.Cursors.{Cut};
+ghost use Rattle.pieces.specs.Cursors.{Cut, Removed};
 ghost use Rattle.lines.specs.Lines.{lines};
 ghost use Rattle.lines.specs.Places.{after, allows, allowed, gap};
 ghost use Rattle.lines.specs.Laws.{LineLaws, PartLaws, SpaceLaw};
@@ -112,6 +112,18 @@ pub struct Lines<'a> {
     pub rest: &'a [u8],
 }
 
+impl<'a> Lines<'a> {
+    /// Removes and answers the first line, without its end; where there is none, the source stays as it is.
+    // Apart from `next`, whose clauses are the trait's and leave open that the rest is shorter.
+    pub fn next_line(&mut self) -> Option<&'a [u8]>
+        ensures { Removed lines result self.old.rest.now self.new.rest.now }
+    {
+        let (line, rest) = first_line(self.rest)?;
+        self.rest = rest;
+        Some(line)
+    }
+}
+
 impl<'a> Iterator for Lines<'a> {
     type Item = &'a [u8];
 
@@ -120,9 +132,7 @@ impl<'a> Iterator for Lines<'a> {
     ghost remaining = { λ s. at_most (length s.rest.now) };
 
     fn next(&mut self) -> Option<&'a [u8]> {
-        let (line, rest) = first_line(self.rest)?;
-        self.rest = rest;
-        Some(line)
+        self.next_line()
     }
 }
 

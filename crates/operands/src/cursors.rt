@@ -1,7 +1,7 @@
 // The values of a `.fill`, and the characters of a string, one after another.
 ghost use Rattle.std.specs.Prelude.{◌≡◌, ℕ};
 ghost use Rattle.std.specs.Iterator.{item_count};
-ghost use Rattle.faults.specs.Chains.{First, Next};
+ghost use Rattle.faults.specs.Chains.{First, Next, Removed};
 ghost use Rattle.operands.specs.Operands.{values, seen};
 ghost use Rattle.operands.specs.Texts.{escaped, characters};
 
@@ -29,6 +29,20 @@ pub struct Values<'a> {
     pub rest: &'a [u8],
 }
 
+impl<'a> Values<'a> {
+    /// Removes and answers the first value; where there is none, or a fault, the fields stay as they are.
+    // Apart from `next`, behind whose fault nothing is left.
+    pub fn next_value(&mut self) -> Result<Option<Immediate<&'a [u8]>>, OperandFault>
+        ensures { Removed values seen result self.old.rest.now self.new.rest.now }
+    {
+        let Some((value, rest)) = first_value(self.rest)? else {
+            return Ok(None);
+        };
+        self.rest = rest;
+        Ok(Some(value))
+    }
+}
+
 impl<'a> Iterator for Values<'a> {
     type Item = Result<Immediate<&'a [u8]>, OperandFault>;
 
@@ -37,12 +51,8 @@ impl<'a> Iterator for Values<'a> {
     ghost remaining = { item_count (λ s. values s.rest.now) };
 
     fn next(&mut self) -> Option<Result<Immediate<&'a [u8]>, OperandFault>> {
-        match first_value(self.rest) {
-            Ok(first) => {
-                let (value, rest) = first?;
-                self.rest = rest;
-                Some(Ok(value))
-            }
+        match self.next_value() {
+            Ok(value) => Some(Ok(value?)),
             Err(fault) => {
                 self.rest = &[];
                 Some(Err(fault))
@@ -82,6 +92,20 @@ pub struct Text<'a> {
     pub rest: &'a [u8],
 }
 
+impl<'a> Text<'a> {
+    /// Removes and answers the first character; none at a closing quote that stands last, where, as at a fault, the bytes stay.
+    // Apart from `next`, as for `next_value`.
+    pub fn next_character(&mut self) -> Result<Option<u8>, StatementFault>
+        ensures { Removed characters (λ n. n) result self.old.rest.now self.new.rest.now }
+    {
+        let Some((character, rest)) = first_character(self.rest)? else {
+            return Ok(None);
+        };
+        self.rest = rest;
+        Ok(Some(character))
+    }
+}
+
 impl<'a> Iterator for Text<'a> {
     type Item = Result<u8, StatementFault>;
 
@@ -90,12 +114,8 @@ impl<'a> Iterator for Text<'a> {
     ghost remaining = { item_count (λ s. characters s.rest.now) };
 
     fn next(&mut self) -> Option<Result<u8, StatementFault>> {
-        match first_character(self.rest) {
-            Ok(first) => {
-                let (character, rest) = first?;
-                self.rest = rest;
-                Some(Ok(character))
-            }
+        match self.next_character() {
+            Ok(character) => Some(Ok(character?)),
             Err(fault) => {
                 // Nothing left: a closing quote alone has no characters.
                 self.rest = b"\"";

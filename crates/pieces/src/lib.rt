@@ -5,7 +5,7 @@ ghost use Rattle.std.specs.Prelude.{◌≡◌, ℕ, ◌++◌, Bool, length};
 ghost use Rattle.std.specs.Iterator.{YieldsFirstRef, at_most};
 ghost use Rattle.pieces.specs.Pieces.{white, behind, pieces};
 ghost use Rattle.pieces.specs.Laws.{Each, GapLaws, StopsAt};
-ghost use Rattle.pieces.specs.Cursors.{Cut};
+ghost use Rattle.pieces.specs.Cursors.{Cut, Removed};
 
 use std::marker::PhantomData;
 
@@ -86,6 +86,16 @@ impl<'a, P: Gaps> Pieces<'a, P> {
             marker: PhantomData,
         }
     }
+
+    /// Removes and answers the first piece; where there is none, the text stays as it is.
+    // Apart from `next`, whose clauses are the trait's and leave open what stays.
+    pub fn next_piece(&mut self) -> Option<&'a [u8]>
+        ensures { Removed (pieces P.next P.is_gap P.start) result self.old.rest.now self.new.rest.now }
+    {
+        let (piece, rest) = first_piece::<P>(self.rest)?;
+        self.rest = rest;
+        Some(piece)
+    }
 }
 
 impl<'a, P: Gaps> Iterator for Pieces<'a, P> {
@@ -96,8 +106,6 @@ impl<'a, P: Gaps> Iterator for Pieces<'a, P> {
     ghost remaining = { λ s. at_most (length s.rest.now) };
 
     fn next(&mut self) -> Option<&'a [u8]> {
-        let (piece, rest) = first_piece::<P>(self.rest)?;
-        self.rest = rest;
-        Some(piece)
+        self.next_piece()
     }
 }

@@ -1,4 +1,4 @@
-// Lent buffers: texts put one behind another at the front of one, as far as they fit.
+// Lent buffers: texts written at a place of one, or one behind another at its front, as far as they fit.
 #![tactic(auto)]
 
 ghost use Rattle.std.specs.Prelude.{◌≡◌, ◌≤◌, length};

@@ -61,6 +61,7 @@ fn read_pattern(digits: &[u8], base: u32, most: u32, width: Width) -> Option<u16
     }
 }
 
+// Not one with `read_negative`: another range, and another word.
 fn read_positive(digits: &[u8], width: Width) -> Option<u16>
     ensures { result ≡ positive (bits_of width) digits.now }
 {

@@ -53,8 +53,8 @@ pub(crate) fn check_fields(fields: Parts<'_>, count: usize) -> Result<(), Statem
 fn check_some(fields: Parts<'_>) -> Result<(), StatementFault>
     ensures { result ≡ some_fields (parts fields.entry.rest.now) }
 {
-    let mut first = fields;
-    next_field(&mut first)?;
+    let mut left = fields;
+    next_field(&mut left)?;
     check_plain(fields)
 }
 

@@ -57,8 +57,8 @@ pub struct Look {
 // Memory and port are lent to each call, and not as one struct: `load`, `look` and `peek` take no port.
 #[derive(Clone, Copy, PartialEq, Eq, Debug)]
 pub struct Machine {
-    // The words of the loaded memory, none before a first load.
-    size: Option<usize>,
+    // The words of the loaded memory, none before a first load; at most 65,536, and as a `u32` the `None` costs no room.
+    size: Option<u32>,
     count: u32,
     cpu: Cpu,
     ghost fits: { (words : ℕ) → size ≡ Some words → (MIN_WORDS ≤ words) × (words ≤ MAX_WORDS) },
@@ -124,7 +124,7 @@ impl Machine {
     fn check_memory(&self, memory: &[u16]) -> Result<(), Refusal>
         ensures { result ≡ sized self.now.size (length memory.now) }
     {
-        if self.size != Some(memory.len()) {
+        if self.size.map(|words| words as usize) != Some(memory.len()) {
             return Err(Refusal::Memory);
         }
         Ok(())
@@ -144,7 +144,7 @@ impl Machine {
         }
         lay(image, memory);
         self.cpu = Cpu::new();
-        self.size = Some(memory.len());
+        self.size = Some(memory.len() as u32);
         self.count = 0;
         Ok(())
     }

@@ -50,11 +50,12 @@ pub(crate) fn check_fields(fields: Parts<'_>, count: usize) -> Result<(), Statem
 }
 
 // Whether there is a field or more, and no text among them.
-fn check_some(fields: Parts<'_>) -> Result<(), StatementFault>
+fn check_some(mut fields: Parts<'_>) -> Result<(), StatementFault>
     ensures { result ≡ some_fields (parts fields.entry.rest.now) }
 {
-    let mut left = fields;
-    next_field(&mut left)?;
+    if next_field(&mut fields)?.contains(&b'"') {
+        return Err(StatementFault::Malformed);
+    }
     check_plain(fields)
 }
 
